@@ -1,9 +1,15 @@
 -- Rules: what a call refuses, as the first of several reasons. No reason is `None`.
-use mathlib.Core.Path.{_≡_}
-use mathlib.Core.Bool.{Bool, cond}
-use Prim.Native.Nat.{ℕ, zero, suc, _+_}
+use mathlib.Core.Bool.{Bool, true, false, cond}
+use mathlib.Core.Logic.{⊎-elim}
+use mathlib.Core.Path.{_≡_, _∙_, refl, ap, subst}
+use native.Mathlib.Omega.{arith}
+use Prim.Native.Nat.{ℕ, zero, suc, _+_, _-_, _<_, _≤_}
+use Rattle.std.proofs.shelf.Tests.{true≢false, cases-eq}
+use Rattle.std.specs.Options.{isSome}
 use Rattle.std.specs.declared.option.Option.{Option}
 use Rattle.std.specs.declared.option.Option.the-variants.{Some, None}
+use Rattle.std.specs.declared.result.Result.{Result}
+use Rattle.std.specs.declared.result.Result.the-variants.{Ok, Err}
 use Rattle.refusals.specs.declared.Refusal.{Refusal}
 
 abbrev pub refusal : ℕ → ℕ → ℕ → Refusal
@@ -22,3 +28,35 @@ unless ok x = cond ok None (Some x)
 abbrev pub first-of : {X : Type 0} → (ℕ → Option X) → (i n : ℕ) → Option X
 first-of f i zero = None
 first-of f i (suc n) = or-else (f i) (first-of f (i + 1) n)
+
+-- why a call said no, by what each fault tells; nothing where it said yes
+abbrev pub reason : {T E : Type 0} → (E → Refusal) → Result T E → Option Refusal
+reason told (Ok x) = None
+reason told (Err e) = Some (told e)
+
+-- What it tells that there is no reason, and how a search through indices goes on.
+pub or-else-none : {X : Type 0} (a b : Option X) → isSome (or-else a b) ≡ false → (isSome a ≡ false) × (isSome b ≡ false)
+or-else-none None b e = (refl, e)
+or-else-none (Some x) b e = absurd (true≢false e)
+
+pub unless-none : {X : Type 0} (ok : Bool) (x : X) → isSome (unless ok x) ≡ false → ok ≡ true
+unless-none true x e = refl
+unless-none false x e = absurd (true≢false e)
+
+pub first-of-none : {X : Type 0} (f : ℕ → Option X) (a n : ℕ) → isSome (first-of f a n) ≡ false → (k : ℕ) → a ≤ k → k < a + n → isSome (f k) ≡ false
+first-of-none f a zero e k low high = absurd (omega arith)
+first-of-none {X} f a (suc n) e k low high =
+    let both = or-else-none (f a) (first-of f (a + 1) n) e in
+    ⊎-elim (λ same. subst (λ i. isSome (f i) ≡ false) same (both .0)) (λ other. first-of-none f (a + 1) n (both .1) k (omega arith) (omega arith)) (cases-eq a k)
+
+module _ {X : Type 0} (f : ℕ → Option X) (n i : ℕ) (h : i < n) where
+  rest : first-of f i (n - i) ≡ or-else (f i) (first-of f (i + 1) (n - (i + 1)))
+  rest =
+      let more : n - i ≡ suc (n - (i + 1)) = omega arith in
+      ap (first-of f i) more
+
+  pub first-of-found : (x : X) → f i ≡ Some x → first-of f i (n - i) ≡ Some x
+  first-of-found x e = rest ∙ ap (λ o. or-else o (first-of f (i + 1) (n - (i + 1)))) e
+
+  pub first-of-next : f i ≡ None → first-of f i (n - i) ≡ first-of f (i + 1) (n - (i + 1))
+  first-of-next e = rest ∙ ap (λ o. or-else o (first-of f (i + 1) (n - (i + 1)))) e

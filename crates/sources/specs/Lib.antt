@@ -1,0 +1,5 @@
+pub mod Indexed
+pub mod Registers
+pub mod Shapes
+pub mod Source
+pub mod Tabled
