@@ -10,6 +10,7 @@ use Rattle.std.proofs.shelf.Counted.{length-map-counting, getD-map-counting}
 use Rattle.std.proofs.shelf.Lists.{getD-past}
 use Rattle.std.proofs.shelf.Tests.{both-ways}
 use Rattle.std.proofs.shelf.Ways.{decides-below-and}
+use Rattle.std.specs.Orderings.{Decides}
 use Rattle.std.specs.Iters.{counting}
 use Rattle.std.specs.shelf.Lists.{All}
 
@@ -26,8 +27,14 @@ module _ (p : ℕ → Bool) (n : ℕ) where
   pub each-more : each p (n + 1) ≡ (p n && each p n)
   each-more = rw add-one
 
+  each-decides : Decides (each p n) ((k : ℕ) → k < n → p k ≡ true)
+  each-decides = decides-below-and p (λ k. p k ≡ true) (each p) (λ k. (λ h. h, λ h. h)) refl (λ _. refl) n
+
   pub each-at : each p n ≡ true → (k : ℕ) → k < n → p k ≡ true
-  each-at e = decides-below-and p (λ k. p k ≡ true) (each p) (λ k. (λ h. h, λ h. h)) refl (λ _. refl) n .0 e
+  each-at = each-decides .0
+
+  pub each-from : ((k : ℕ) → k < n → p k ≡ true) → each p n ≡ true
+  each-from = each-decides .1
 
   pub each-not : (k : ℕ) → k < n → p k ≡ false → each p n ≡ false
   each-not k h e = go (each p n) refl

@@ -1,4 +1,6 @@
+pub mod Ends
 pub mod Indexed
+pub mod Lines
 pub mod Registers
 pub mod Shapes
 pub mod Source
