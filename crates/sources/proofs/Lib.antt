@@ -1,2 +1,3 @@
+mod Joins
 mod Rows
 mod Words

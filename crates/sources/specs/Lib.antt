@@ -5,3 +5,4 @@ pub mod Registers
 pub mod Shapes
 pub mod Source
 pub mod Tabled
+pub mod Unions

@@ -3,6 +3,7 @@ mod interface;
 mod logs;
 mod ramps;
 mod shapes;
+mod unions;
 
 pub use interface::Source;
 pub use logs::Log;
@@ -17,3 +18,5 @@ pub use shapes::Range;
 pub use shapes::Shape;
 pub use shapes::SourceFault;
 pub use shapes::SourceFaultTold;
+pub use unions::Union;
+pub use unions::UnionSource;
