@@ -49,14 +49,16 @@ first-of-none {X} f a (suc n) e k low high =
     let both = or-else-none (f a) (first-of f (a + 1) n) e in
     ⊎-elim (λ same. subst (λ i. isSome (f i) ≡ false) same (both .0)) (λ other. first-of-none f (a + 1) n (both .1) k (omega arith) (omega arith)) (cases-eq a k)
 
-module _ {X : Type 0} (f : ℕ → Option X) (n i : ℕ) (h : i < n) where
-  rest : first-of f i (n - i) ≡ or-else (f i) (first-of f (i + 1) (n - (i + 1)))
-  rest =
-      let more : n - i ≡ suc (n - (i + 1)) = omega arith in
-      ap (first-of f i) more
+-- A loop that has come to index i of n: what is left gives the answer v, so the reason at i is the answer,
+-- and where there is none at i, what is left behind i gives it.
+module _ {X : Type 0} (f : ℕ → Option X) (n i : ℕ) (h : i < n) {v : Option X} (left : first-of f i (n - i) ≡ v) where
+  split : or-else (f i) (first-of f (i + 1) (n - (i + 1))) ≡ v
+  split =
+      let more : suc (n - (i + 1)) ≡ n - i = omega arith in
+      ap (first-of f i) more ∙ left
 
-  pub first-of-found : (x : X) → f i ≡ Some x → first-of f i (n - i) ≡ Some x
-  first-of-found x e = rest ∙ ap (λ o. or-else o (first-of f (i + 1) (n - (i + 1)))) e
+  pub first-of-found : (x : X) → Some x ≡ f i → Some x ≡ v
+  first-of-found x e = ap (λ o. or-else o (first-of f (i + 1) (n - (i + 1)))) e ∙ split
 
-  pub first-of-next : f i ≡ None → first-of f i (n - i) ≡ first-of f (i + 1) (n - (i + 1))
-  first-of-next e = rest ∙ ap (λ o. or-else o (first-of f (i + 1) (n - (i + 1)))) e
+  pub first-of-next : None ≡ f i → first-of f (i + 1) (n - (i + 1)) ≡ v
+  first-of-next e = ap (λ o. or-else o (first-of f (i + 1) (n - (i + 1)))) e ∙ split
