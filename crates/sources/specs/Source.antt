@@ -13,14 +13,12 @@ use Rattle.sources.specs.declared.shapes.Range.{Range}
 abbrev pub Row : Type 0
 Row = List ℤ
 
--- the width is the number of columns
+-- a shape (the number of columns, the most rows, and each column's range) and the rows
 pub record Meaning : Type 0 where
+  pub width : ℕ
   pub limit : ℕ
   pub columns : List Range
   pub rows : List Row
-
-abbrev pub width-of : Meaning → ℕ
-width-of m = length (m .columns)
 
 abbrev pub low-of : Meaning → ℕ → ℤ
 low-of m j = column (m .columns) j .low
@@ -44,13 +42,14 @@ Fits (c ∷ cs) (z ∷ zs) = (within c z ≡ true) × Fits cs zs
 
 -- the law of a source
 pub record Lawful (m : Meaning) : Type 0 where
-  pub some-width : 1 ≤ width-of m
-  pub few-columns : width-of m ≤ max-width
+  pub some-width : 1 ≤ m .width
+  pub few-columns : m .width ≤ max-width
   pub few-rows : m .limit ≤ max-rows
+  pub all-columns : length (m .columns) ≡ m .width
   pub columns-sound : All (λ c. sound c ≡ true) (m .columns)
   pub in-limit : count-of m ≤ m .limit
   pub rows-fit : All (Fits (m .columns)) (m .rows)
 
 -- the source that is not opened yet: one column from 0 to 0, and no rows
 abbrev pub unopened : Meaning
-unopened = record { limit = 0; columns = range (pos 0) (pos 0) ∷ []; rows = [] }
+unopened = record { width = 1; limit = 0; columns = range (pos 0) (pos 0) ∷ []; rows = [] }

@@ -12,20 +12,17 @@ use Rattle.std.proofs.shelf.Tests.{cases-lt}
 use Rattle.std.specs.Iters.{counting}
 use Rattle.sources.specs.Indexed.{listed, listed-at, listed-past, all-listed}
 use Rattle.sources.specs.Shapes.{range, sound, within, column, max-width, max-rows}
-use Rattle.sources.specs.Source.{Row, Meaning, Lawful, Fits, width-of, count-of, cell-of}
+use Rattle.sources.specs.Source.{Row, Meaning, Lawful, Fits, count-of, cell-of}
 use Rattle.sources.specs.declared.shapes.Range.{Range}
 
 abbrev pub tabled : (width limit count : ℕ) → (ℕ → Range) → (ℕ → ℕ → ℤ) → Meaning
-tabled width limit count ranges cell = record { limit = limit; columns = listed ranges width; rows = listed (λ i. listed (cell i) width) count }
+tabled width limit count ranges cell = record { width = width; limit = limit; columns = listed ranges width; rows = listed (λ i. listed (cell i) width) count }
 
 fits-listed : (ranges : ℕ → Range) (cells : ℕ → ℤ) (a n : ℕ) → ((k : ℕ) → a ≤ k → k < a + n → within (ranges k) (cells k) ≡ true) → Fits (map ranges (counting a n)) (map cells (counting a n))
 fits-listed ranges cells a zero h = tt
 fits-listed ranges cells a (suc n) h = (h a (omega arith) (omega arith), fits-listed ranges cells (a + 1) n (λ k low high. h k (omega arith) (omega arith)))
 
 module _ (width limit count : ℕ) (ranges : ℕ → Range) (cell : ℕ → ℕ → ℤ) where
-  pub tabled-width : width-of (tabled width limit count ranges cell) ≡ width
-  tabled-width = length-map-counting ranges 0 width
-
   pub tabled-count : count-of (tabled width limit count ranges cell) ≡ count
   tabled-count = length-map-counting (λ i. listed (cell i) width) 0 count
 
@@ -45,9 +42,10 @@ module _ (width limit count : ℕ) (ranges : ℕ → Range) (cell : ℕ → ℕ 
   pub tabled-lawful : 1 ≤ width → width ≤ max-width → limit ≤ max-rows → count ≤ limit → ((j : ℕ) → j < width → sound (ranges j) ≡ true) → ((i j : ℕ) → i < count → j < width → within (ranges j) (cell i j) ≡ true) → Lawful (tabled width limit count ranges cell)
   tabled-lawful some few rows in-limit columns cells =
       record {
-        some-width = rw tabled-width some;
-        few-columns = rw tabled-width few;
+        some-width = some;
+        few-columns = few;
         few-rows = rows;
+        all-columns = length-map-counting ranges 0 width;
         columns-sound = all-listed (λ c. sound c ≡ true) ranges 0 width (λ j _ h. columns j (omega arith));
         in-limit = rw tabled-count in-limit;
         rows-fit = all-listed (Fits (listed ranges width)) (λ i. listed (cell i) width) 0 count (λ i _ h. fits-listed ranges (cell i) 0 width (λ j _ k. cells i j (omega arith) (omega arith)));

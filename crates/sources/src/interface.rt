@@ -1,6 +1,6 @@
 // A source of rows, whatever holds them.
 ghost use mathlib.Core.Path.{_≡_};
-ghost use Rattle.sources.specs.Source.{Meaning, Lawful, width-of, low-of, high-of, count-of, cell-of};
+ghost use Rattle.sources.specs.Source.{Meaning, Lawful, low-of, high-of, count-of, cell-of};
 
 // Asking changes nothing, and a missing row or column gives 0. Rows and columns count from 0.
 pub trait Source {
@@ -11,7 +11,7 @@ pub trait Source {
 
     // The number of columns.
     fn width(&self) -> usize
-        ensures { λ r. ⌜ r ≡ width-of (meaning (now (self .entry))) ⌝ };
+        ensures { λ r. ⌜ r ≡ meaning (now (self .entry)) .width ⌝ };
 
     // The most rows that the source may have.
     fn limit(&self) -> usize

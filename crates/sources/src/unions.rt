@@ -1,6 +1,6 @@
 // The union of two sources, of any kinds.
 ghost use mathlib.Core.Path.{_≡_};
-ghost use Rattle.sources.specs.Unions.{joint-limit, union, union-lawful};
+ghost use Rattle.sources.specs.Unions.{joint-limit, union, union-lawful, Unites};
 use crate::interface::Source;
 use crate::shapes::MAX_ROWS;
 
@@ -13,9 +13,10 @@ pub struct Union<A, B> {
 }
 
 impl<A: Source, B: Source> Union<A, B> {
-    // The limits added, where the two sources join.
+    // The limits added, where the two sources join, and what the union answers then and else.
     fn joint_limit(&self) -> Option<usize>
-        ensures { λ r. ⌜ r ≡ joint-limit (A·Source .meaning (now (self .entry) .first)) (B·Source .meaning (now (self .entry) .second)) ⌝ }
+        ensures value { λ r. ⌜ r ≡ joint-limit (A·Source .meaning (now (self .entry) .first)) (B·Source .meaning (now (self .entry) .second)) ⌝ }
+        ensures answers { λ r. ⌜ Unites (A·Source .meaning (now (self .entry) .first)) (B·Source .meaning (now (self .entry) .second)) (union (A·Source .meaning (now (self .entry) .first)) (B·Source .meaning (now (self .entry) .second))) r ⌝ }
     {
         let limit = self.first.limit() + self.second.limit();
         if self.first.width() == self.second.width() && limit <= MAX_ROWS {
