@@ -5,7 +5,7 @@ use crate::interface::Source;
 use crate::shapes::MAX_ROWS;
 
 // The rows of the first, then those of the second. Where the widths differ or the limits pass 4,096 together,
-// it has the first's columns, limit 0 and no rows.
+// it has the first's columns, limit 0 and no rows. Each call asks both sources whether they join.
 #[derive(Clone, Copy, Drop)]
 pub struct Union<A, B> {
     pub first: A,
