@@ -1,0 +1,10 @@
+// What a query is: four kinds of forms. The tree, its meaning and its written form are in specs/.
+
+// What a form gives: a number from a row, a truth of a row, a list of rows, or a number.
+#[derive(Clone, Copy, PartialEq, Eq, Debug)]
+pub enum Kind {
+    Term,
+    Condition,
+    Bag,
+    Number,
+}
