@@ -1,0 +1,23 @@
+-- The size of a tree: how many forms, how deep, how large its numbers; and the limits of a query.
+use Prim.Native.Nat.{ℕ, suc, max, _≤_}
+use lib.IntN.{ℤ, natAbs}
+use mathlib.Core.List.{List, foldr, _++_}
+use Rattle.std.specs.shelf.Lists.{All, joined, sum}
+use Rattle.trees.specs.declared.Kind.{Kind}
+use Rattle.trees.specs.Fold.{fold}
+use Rattle.trees.specs.Tree.{Tree}
+
+-- a form counts once, and so does each form in its parts
+abbrev pub size : {k : Kind} → Tree k → ℕ
+size t = fold (λ w ns ps. suc (sum ps)) t
+
+-- a form without parts has depth 1
+abbrev pub depth : {k : Kind} → Tree k → ℕ
+depth t = fold (λ w ns ps. suc (foldr max 0 ps)) t
+
+-- every number that stands in the tree
+abbrev pub numbers : {k : Kind} → Tree k → List ℤ
+numbers t = fold (λ w ns ps. ns ++ joined (λ ms. ms) ps) t
+
+abbrev pub Numbers-within : ℕ → {k : Kind} → Tree k → Type 0
+Numbers-within bound t = All (λ n. natAbs n ≤ bound) (numbers t)

@@ -1,0 +1,167 @@
+// The words of a query, by one table: how each is spelled, what its form gives, and what stands in it.
+ghost use mathlib.Core.Path.{_≡_};
+ghost use Rattle.trees.specs.Words.{entry, spelled-in, word-spelled, Names};
+use crate::Kind;
+
+#[derive(Clone, Copy, PartialEq, Eq, Debug)]
+pub enum Word {
+    Bag,
+    Keep,
+    Put,
+    Pool,
+    Col,
+    Lit,
+    Plus,
+    Times,
+    Pick,
+    Less,
+    Equal,
+    Either,
+    Not,
+    Num,
+    Setting,
+    Var,
+    Count,
+    Sum,
+    Add,
+    Sub,
+    Least,
+    Most,
+    Scale,
+    Clip,
+    Let,
+}
+
+// Every word once.
+const WORDS: [Word; 25] = [
+    Word::Bag,
+    Word::Keep,
+    Word::Put,
+    Word::Pool,
+    Word::Col,
+    Word::Lit,
+    Word::Plus,
+    Word::Times,
+    Word::Pick,
+    Word::Less,
+    Word::Equal,
+    Word::Either,
+    Word::Not,
+    Word::Num,
+    Word::Setting,
+    Word::Var,
+    Word::Count,
+    Word::Sum,
+    Word::Add,
+    Word::Sub,
+    Word::Least,
+    Word::Most,
+    Word::Scale,
+    Word::Clip,
+    Word::Let,
+];
+
+impl Word {
+    // The word with this spelling. Looks through all words.
+    pub fn named(spelling: &[u8]) -> Option<Word>
+        ensures found { λ r. ⌜ r ≡ word-spelled (now (spelling .entry)) ⌝ }
+        ensures law { λ r. ⌜ Names (now (spelling .entry)) r ⌝ }
+    {
+        first_spelled(&WORDS, spelling)
+    }
+
+    pub fn spelling(self) -> &'static [u8]
+        ensures { λ r. ⌜ now r ≡ entry self .spelling ⌝ }
+    {
+        match self {
+            Word::Bag => b"bag",
+            Word::Keep => b"keep",
+            Word::Put => b"put",
+            Word::Pool => b"pool",
+            Word::Col => b"col",
+            Word::Lit => b"lit",
+            Word::Plus => b"plus",
+            Word::Times => b"times",
+            Word::Pick => b"pick",
+            Word::Less => b"less",
+            Word::Equal => b"equal",
+            Word::Either => b"either",
+            Word::Not => b"not",
+            Word::Num => b"num",
+            Word::Setting => b"setting",
+            Word::Var => b"var",
+            Word::Count => b"count",
+            Word::Sum => b"sum",
+            Word::Add => b"add",
+            Word::Sub => b"sub",
+            Word::Least => b"least",
+            Word::Most => b"most",
+            Word::Scale => b"scale",
+            Word::Clip => b"clip",
+            Word::Let => b"let",
+        }
+    }
+
+    // What its form gives.
+    pub fn kind(self) -> Kind
+        ensures { λ r. ⌜ r ≡ entry self .kind ⌝ }
+    {
+        match self {
+            Word::Bag | Word::Keep | Word::Put | Word::Pool => Kind::Bag,
+            Word::Col | Word::Lit | Word::Plus | Word::Times | Word::Pick => Kind::Term,
+            Word::Less | Word::Equal | Word::Either | Word::Not => Kind::Condition,
+            _ => Kind::Number,
+        }
+    }
+
+    // How many numbers follow the word on its line.
+    pub fn numbers(self) -> usize
+        ensures { λ r. ⌜ r ≡ entry self .numbers ⌝ }
+    {
+        match self {
+            Word::Sum | Word::Clip => 2,
+            Word::Bag
+            | Word::Put
+            | Word::Col
+            | Word::Lit
+            | Word::Num
+            | Word::Setting
+            | Word::Var
+            | Word::Scale => 1,
+            _ => 0,
+        }
+    }
+
+    // The kinds of the form's parts, in order.
+    pub fn parts(self) -> &'static [Kind]
+        ensures { λ r. ⌜ now r ≡ entry self .parts ⌝ }
+    {
+        match self {
+            Word::Bag | Word::Col | Word::Lit | Word::Num | Word::Setting | Word::Var => &[],
+            Word::Keep => &[Kind::Bag, Kind::Condition],
+            Word::Put | Word::Sum => &[Kind::Bag, Kind::Term],
+            Word::Pool => &[Kind::Bag, Kind::Bag],
+            Word::Plus | Word::Times | Word::Less | Word::Equal => &[Kind::Term, Kind::Term],
+            Word::Pick => &[Kind::Condition, Kind::Term, Kind::Term],
+            Word::Either => &[Kind::Condition, Kind::Condition],
+            Word::Not => &[Kind::Condition],
+            Word::Count => &[Kind::Bag],
+            Word::Scale | Word::Clip => &[Kind::Number],
+            Word::Add | Word::Sub | Word::Least | Word::Most | Word::Let => &[
+                Kind::Number,
+                Kind::Number,
+            ],
+        }
+    }
+}
+
+fn first_spelled(words: &[Word], spelling: &[u8]) -> Option<Word>
+    ensures { λ r. ⌜ r ≡ spelled-in (now (words .entry)) (now (spelling .entry)) ⌝ }
+{
+    for word in words {
+        if word.spelling() == spelling {
+            return Some(*word);
+        }
+    }
+    None
+}
