@@ -1,3 +1,6 @@
 pub mod Folds
+pub mod Lines
 pub mod Rebuild
 pub mod Spelling
+pub mod Table
+pub mod Unique

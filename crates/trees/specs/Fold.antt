@@ -1,11 +1,14 @@
 -- Recursion on a tree: what comes of a form, from its word, its numbers and what came of its parts.
 use lib.IntN.{ℤ}
-use mathlib.Core.List.{List, [], _∷_}
+use lib.ListN.{length}
+use mathlib.Core.List.{List, [], _∷_, map}
+use mathlib.Core.Path.{_≡_}
 use Rattle.trees.specs.declared.Kind.{Kind}
 use Rattle.trees.specs.declared.words.Word.{Word}
 use Rattle.trees.specs.declared.words.Word.the-variants.{Bag, Keep, Put, Pool, Col, Lit, Plus, Times, Pick, Less, Equal, Either, Not, Num, Setting, Var, Count, Sum, Add, Sub, Least, Most, Scale, Clip, Let}
 use Rattle.trees.specs.Tree.{Tree}
 use Rattle.trees.specs.Tree.Tree.{bag, keep, put, pool, col, lit, plus, times, pick, less, equal, either, not, num, setting, var, count, sum, add, sub, least, most, scale, clip, let-in}
+use Rattle.trees.specs.Words.{entry}
 
 -- each line names a form's word, its numbers and its parts in order
 abbrev pub fold : {X : Type 0} → (Word → List ℤ → List X → X) → {k : Kind} → Tree k → X
@@ -40,3 +43,11 @@ word-of t = fold (λ w ns ps. w) t
 
 abbrev pub numbers-of : {k : Kind} → Tree k → List ℤ
 numbers-of t = fold (λ w ns ps. ns) t
+
+-- the kinds of a form's parts in order, each by the part's own word
+abbrev pub part-kinds : {k : Kind} → Tree k → List Kind
+part-kinds t = fold {X = Kind × List Kind} (λ w ns ps. (entry w .kind, map (λ p. p .0) ps)) t .1
+
+-- Every tree is built by the table of words: it is of its word's kind, and has as many numbers and parts of such kinds as the table says.
+abbrev pub Built-by-table : Type 0
+Built-by-table = (k : Kind) (t : Tree k) → (k ≡ entry (word-of t) .kind) × (length (numbers-of t) ≡ entry (word-of t) .numbers) × (part-kinds t ≡ entry (word-of t) .parts)

@@ -21,3 +21,20 @@ numbers t = fold (λ w ns ps. ns ++ joined (λ ms. ms) ps) t
 
 abbrev pub Numbers-within : ℕ → {k : Kind} → Tree k → Type 0
 Numbers-within bound t = All (λ n. natAbs n ≤ bound) (numbers t)
+
+-- the limits of a query
+
+abbrev pub max-forms : ℕ
+max-forms = 64
+
+abbrev pub max-depth : ℕ
+max-depth = 16
+
+-- the size of the greatest number that a text may write
+abbrev pub literal-bound : ℕ
+literal-bound = 1_000_000
+
+pub record Within-limits {k : Kind} (t : Tree k) : Type 0 where
+  pub forms : size t ≤ max-forms
+  pub depths : depth t ≤ max-depth
+  pub literals : Numbers-within literal-bound t

@@ -62,6 +62,10 @@ spelled-in (w ∷ ws) bs = cond (sameBytes (entry w .spelling) bs) (Some w) (spe
 unfoldable pub word-spelled : List ℕ → Option Word
 word-spelled bs = spelled-in words bs
 
--- r is a word exactly when bs is its spelling, so no two words are spelled alike and none is left out
+-- r is the word w exactly when bs is how w is spelled, for every word
 abbrev pub Names : List ℕ → Option Word → Type 0
 Names bs r = (w : Word) → (r ≡ Some w → bs ≡ entry w .spelling) × (bs ≡ entry w .spelling → r ≡ Some w)
+
+-- no two words are spelled alike
+abbrev pub Spelled-apart : Type 0
+Spelled-apart = (v w : Word) → entry v .spelling ≡ entry w .spelling → v ≡ w

@@ -10,7 +10,7 @@ use Rattle.trees.specs.declared.Kind.{Kind}
 use Rattle.trees.specs.declared.words.Word.{Word}
 use Rattle.trees.specs.Fold.{fold}
 use Rattle.trees.specs.Size.{Numbers-within}
-use Rattle.trees.specs.Tree.{Tree}
+use Rattle.trees.specs.Tree.{Tree, any}
 use Rattle.trees.specs.Words.{entry}
 
 -- a line opens a form that has parts, is a whole form without parts, or closes the form last opened
@@ -46,4 +46,4 @@ written t = joined bytes (lines t)
 
 -- Trees with the same written form are the same tree, of the same kind. The numbers are those that fit 64 bits, as `signed` writes them.
 abbrev pub Written-once : Type 0
-Written-once = (k l : Kind) (t : Tree k) (u : Tree l) → Numbers-within (2 ^ 63 - 1) t → Numbers-within (2 ^ 63 - 1) u → written t ≡ written u → _≡_ {A = (k : Kind) × Tree k} (k, t) (l, u)
+Written-once = (k l : Kind) (t : Tree k) (u : Tree l) → Numbers-within (2 ^ 63 - 1) t → Numbers-within (2 ^ 63 - 1) u → written t ≡ written u → any t ≡ any u

@@ -1,4 +1,5 @@
 // What a query is: four kinds of forms. The tree, its meaning and its written form are in specs/.
+pub mod laws;
 pub mod words;
 
 // What a form gives: a number from a row, a truth of a row, a list of rows, or a number.

@@ -1,9 +1,10 @@
 // The words of a query, by one table: how each is spelled, what its form gives, and what stands in it.
 ghost use mathlib.Core.Path.{_≡_};
-ghost use Rattle.trees.specs.Words.{entry, spelled-in, word-spelled, Names};
+ghost use Rattle.std.specs.Orderings.{Decides};
+ghost use Rattle.trees.specs.Words.{entry, spelled-in, word-spelled, Names, Spelled-apart};
 use crate::Kind;
 
-#[derive(Clone, Copy, PartialEq, Eq, Debug)]
+#[derive(Clone, Copy, Debug)]
 pub enum Word {
     Bag,
     Keep,
@@ -31,6 +32,16 @@ pub enum Word {
     Clip,
     Let,
 }
+
+pub impl PartialEq<Word> for Word as WordPartialEq {
+    ghost equals = { λ v w r. Decides r (v ≡ w) };
+
+    fn eq(&self, other: &Word) -> bool {
+        *self as u8 == *other as u8
+    }
+}
+
+pub impl Eq for Word as WordEq {}
 
 // Every word once.
 const WORDS: [Word; 25] = [
@@ -66,6 +77,7 @@ impl Word {
     pub fn named(spelling: &[u8]) -> Option<Word>
         ensures found { λ r. ⌜ r ≡ word-spelled (now (spelling .entry)) ⌝ }
         ensures law { λ r. ⌜ Names (now (spelling .entry)) r ⌝ }
+        ensures apart { λ _. ⌜ Spelled-apart ⌝ }
     {
         first_spelled(&WORDS, spelling)
     }
@@ -164,4 +176,33 @@ fn first_spelled(words: &[Word], spelling: &[u8]) -> Option<Word>
         }
     }
     None
+}
+
+#[cfg(test)]
+mod tests {
+    use super::*;
+    use crate::KindDebug;
+    use crate::KindPartialEq;
+    use std::test::*;
+
+    #[test]
+    fn a_word_by_its_spelling() -> Result<(), Fail> {
+        check_eq(Word::named(b"sum"), Some(Word::Sum))?;
+        check_eq(Word::named(Word::Setting.spelling()), Some(Word::Setting))
+    }
+
+    #[test]
+    fn no_word() -> Result<(), Fail> {
+        check_eq(Word::named(b"summ"), None)?;
+        check_eq(Word::named(b"Sum"), None)?;
+        check_eq(Word::named(b"su"), None)?;
+        check_eq(Word::named(b""), None)
+    }
+
+    #[test]
+    fn what_stands_in_a_form() -> Result<(), Fail> {
+        check_eq(Word::Pick.kind(), Kind::Term)?;
+        check_eq(Word::Clip.numbers(), 2)?;
+        check(Word::Pick.parts() == [Kind::Condition, Kind::Term, Kind::Term])
+    }
 }

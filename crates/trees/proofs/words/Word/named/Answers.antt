@@ -1,8 +1,6 @@
-use mathlib.Core.Path.{_≡_, sym, subst}
-use Rattle.std.specs.declared.option.Option.{Option}
-use Rattle.trees.proofs.Spelling.{names}
+use mathlib.Core.Path.{sym, subst}
+use Rattle.trees.proofs.Spelling.{names, spelled-apart}
 use Rattle.trees.proofs.words.Word.named.Needs as need
-use Rattle.trees.specs.declared.words.Word.{Word}
 use Rattle.trees.specs.Words.{word-spelled, Names}
 
 pub returns : need.returns
@@ -10,5 +8,6 @@ unfolding word-spelled
 returns c =
     record {
       found = c .first-spelled .ensures;
-      law = subst (λ (r : Option Word). Names (c .args .spelling .now) r) (sym (c .first-spelled .ensures)) (names (c .args .spelling .now));
+      law = subst (Names (c .args .spelling .now)) (sym (c .first-spelled .ensures)) (names (c .args .spelling .now));
+      apart = spelled-apart;
     }
