@@ -1,4 +1,4 @@
-pub mod Folds
+pub mod Induction
 pub mod Lines
 pub mod Rebuild
 pub mod Spelling

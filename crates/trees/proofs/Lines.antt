@@ -16,7 +16,7 @@ use Rattle.std.specs.Written.{signed, decimal}
 use Rattle.trees.proofs.Spelling.{letters, spelled-apart}
 use Rattle.trees.specs.declared.words.Word.{Word}
 use Rattle.trees.specs.Words.{entry}
-use Rattle.trees.specs.Written.{Line, head, bytes}
+use Rattle.trees.specs.Written.{Line, heading, line-bytes}
 use Rattle.trees.specs.Written.Line.{opening, leaf, closing}
 
 -- no byte of P comes first
@@ -78,7 +78,7 @@ numbers-apart (n ∷ ns) (m ∷ ms) xs ys f g s t e =
     let rest = numbers-apart ns ms xs ys (f .1) (g .1) s t (r .1) in
     (ap₂ (λ (k : ℤ) (ks : List ℤ). k ∷ ks) (same-from-signed n m (mag-fits n (f .0)) (mag-fits m (g .0)) (r .0)) (rest .0), rest .1)
 
-head-apart : (w v : Word) (ns ms : List ℤ) (xs ys : List ℕ) → All Fits ns → All Fits ms → Stops Inner xs → Stops Inner ys → head w ns ++ xs ≡ head v ms ++ ys → (w ≡ v) × (ns ≡ ms) × (xs ≡ ys)
+head-apart : (w v : Word) (ns ms : List ℤ) (xs ys : List ℕ) → All Fits ns → All Fits ms → Stops Inner xs → Stops Inner ys → heading w ns ++ xs ≡ heading v ms ++ ys → (w ≡ v) × (ns ≡ ms) × (xs ≡ ys)
 head-apart w v ns ms xs ys f g s t e =
     let stops : (ks : List ℤ) (zs : List ℕ) → Stops Inner zs → Stops (In 97 122) (spaced ks ++ zs) = λ ks zs u. stops-spaced (In 97 122) (λ i. omega arith) ks zs (stops-weaker (In 97 122) Inner (λ c i. inr (omega arith)) zs u) in
     let parts = sym (append-assoc (entry w .spelling) (spaced ns) xs) ∙ e ∙ append-assoc (entry v .spelling) (spaced ms) ys in
@@ -93,12 +93,12 @@ line-numbers (leaf w ns) = ns
 line-numbers closing = []
 
 -- the same of a form's line, up to what ends it
-form-apart : (w v : Word) (ns ms : List ℤ) (zs us xs ys : List ℕ) → All Fits ns → All Fits ms → Stops Inner (zs ++ xs) → Stops Inner (us ++ ys) → (codes "(" ++ (head w ns ++ zs)) ++ xs ≡ (codes "(" ++ (head v ms ++ us)) ++ ys → (w ≡ v) × (ns ≡ ms) × (zs ++ xs ≡ us ++ ys)
+form-apart : (w v : Word) (ns ms : List ℤ) (zs us xs ys : List ℕ) → All Fits ns → All Fits ms → Stops Inner (zs ++ xs) → Stops Inner (us ++ ys) → (codes "(" ++ (heading w ns ++ zs)) ++ xs ≡ (codes "(" ++ (heading v ms ++ us)) ++ ys → (w ≡ v) × (ns ≡ ms) × (zs ++ xs ≡ us ++ ys)
 form-apart w v ns ms zs us xs ys f g s t e =
-    head-apart w v ns ms (zs ++ xs) (us ++ ys) f g s t (sym (append-assoc (head w ns) zs xs) ∙ tail-eq-of-cons-eq e ∙ append-assoc (head v ms) us ys)
+    head-apart w v ns ms (zs ++ xs) (us ++ ys) f g s t (sym (append-assoc (heading w ns) zs xs) ∙ tail-eq-of-cons-eq e ∙ append-assoc (heading v ms) us ys)
 
 -- a line is told by its bytes, whatever follows
-pub line-apart : (l m : Line) (xs ys : List ℕ) → All Fits (line-numbers l) → All Fits (line-numbers m) → bytes l ++ xs ≡ bytes m ++ ys → (l ≡ m) × (xs ≡ ys)
+pub line-apart : (l m : Line) (xs ys : List ℕ) → All Fits (line-numbers l) → All Fits (line-numbers m) → line-bytes l ++ xs ≡ line-bytes m ++ ys → (l ≡ m) × (xs ≡ ys)
 line-apart (opening w ns) (opening v ms) xs ys f g e =
     let (p, q, r) = form-apart w v ns ms (10 ∷ []) (10 ∷ []) xs ys f g (λ i. omega arith) (λ i. omega arith) e in
     (ap₂ opening p q, tail-eq-of-cons-eq r)
@@ -117,15 +117,15 @@ line-apart closing (opening v ms) xs ys f g e = absurd (omega (arith, head-eq-of
 line-apart closing (leaf v ms) xs ys f g e = absurd (omega (arith, head-eq-of-cons-eq e))
 line-apart closing closing xs ys f g e = (refl, tail-eq-of-cons-eq (tail-eq-of-cons-eq e))
 
-not-empty : (l : Line) (xs : List ℕ) → [] ≡ bytes l ++ xs → ⊥
+not-empty : (l : Line) (xs : List ℕ) → [] ≡ line-bytes l ++ xs → ⊥
 not-empty (opening w ns) xs e = omega (arith, ap length e)
 not-empty (leaf w ns) xs e = omega (arith, ap length e)
 not-empty closing xs e = omega (arith, ap length e)
 
-pub same-from-bytes : (ls ms : List Line) → All (λ l. All Fits (line-numbers l)) ls → All (λ l. All Fits (line-numbers l)) ms → joined bytes ls ≡ joined bytes ms → ls ≡ ms
+pub same-from-bytes : (ls ms : List Line) → All (λ l. All Fits (line-numbers l)) ls → All (λ l. All Fits (line-numbers l)) ms → joined line-bytes ls ≡ joined line-bytes ms → ls ≡ ms
 same-from-bytes [] [] f g e = refl
-same-from-bytes [] (m ∷ ms) f g e = absurd (not-empty m (joined bytes ms) e)
-same-from-bytes (l ∷ ls) [] f g e = absurd (not-empty l (joined bytes ls) (sym e))
+same-from-bytes [] (m ∷ ms) f g e = absurd (not-empty m (joined line-bytes ms) e)
+same-from-bytes (l ∷ ls) [] f g e = absurd (not-empty l (joined line-bytes ls) (sym e))
 same-from-bytes (l ∷ ls) (m ∷ ms) f g e =
-    let r = line-apart l m (joined bytes ls) (joined bytes ms) (f .0) (g .0) e in
+    let r = line-apart l m (joined line-bytes ls) (joined line-bytes ms) (f .0) (g .0) e in
     ap₂ (λ (k : Line) (ks : List Line). k ∷ ks) (r .0) (same-from-bytes ls ms (f .1) (g .1) (r .1))

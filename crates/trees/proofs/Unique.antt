@@ -1,17 +1,15 @@
 -- The written form tells the tree: its bytes tell its lines, and these the tree.
 use lib.IntN.{ℤ}
-use lib.ListN.{length}
 use mathlib.Core.List.{List, [], _∷_, _++_, append-assoc, append-nil}
 use mathlib.Core.Path.{_≡_, refl, sym, ap, ap₂, subst, _∙_}
 use Rattle.std.specs.shelf.Lists.{All, joined}
-use Rattle.trees.proofs.Folds.{Both, kinds, lefts, rights, related}
+use Rattle.trees.proofs.Induction.{folds, induct}
 use Rattle.trees.proofs.Lines.{Fits, line-numbers, same-from-bytes}
 use Rattle.trees.proofs.Rebuild.{same-from-lines}
 use Rattle.trees.specs.declared.Kind.{Kind}
 use Rattle.trees.specs.declared.words.Word.{Word}
-use Rattle.trees.specs.Size.{numbers}
-use Rattle.trees.specs.Tree.{Tree}
-use Rattle.trees.specs.Words.{entry}
+use Rattle.trees.specs.Size.{form-numbers, numbers}
+use Rattle.trees.specs.Tree.{Tree, AnyTree, any}
 use Rattle.trees.specs.Written.{Line, form-lines, lines, Written-once}
 use Rattle.trees.specs.Written.Line.{closing}
 
@@ -19,22 +17,24 @@ joined-append : {X A : Type 0} (f : X → List A) (xs ys : List X) → joined f 
 joined-append f [] ys = refl
 joined-append f (x ∷ xs) ys = ap (λ zs. f x ++ zs) (joined-append f xs ys) ∙ sym (append-assoc (f x) (joined f xs) (joined f ys))
 
-abbrev Same-numbers : Kind → List ℤ → List Line → Type 0
-Same-numbers k ns ls = ns ≡ joined line-numbers ls
+-- the numbers of a tree are those on its lines
+abbrev Same-numbers : AnyTree → Type 0
+Same-numbers p = numbers (p .1) ≡ joined line-numbers (lines (p .1))
 
-parts-numbers : (ps : List (Both (List ℤ) (List Line))) → All (λ p. Same-numbers (p .kind) (p .left) (p .right)) ps → joined (λ ns. ns) (lefts ps) ≡ joined line-numbers (joined (λ ls. ls) (rights ps))
+parts-numbers : (ps : List AnyTree) → All Same-numbers ps → joined (λ ns. ns) (folds form-numbers ps) ≡ joined line-numbers (joined (λ ls. ls) (folds form-lines ps))
 parts-numbers [] all = refl
-parts-numbers (p ∷ ps) all = ap₂ (λ (ns ms : List ℤ). ns ++ ms) (all .0) (parts-numbers ps (all .1)) ∙ sym (joined-append line-numbers (p .right) (joined (λ ls. ls) (rights ps)))
+parts-numbers (p ∷ ps) all = ap₂ (λ (ns ms : List ℤ). ns ++ ms) (all .0) (parts-numbers ps (all .1)) ∙ sym (joined-append line-numbers (lines (p .1)) (joined (λ ls. ls) (folds form-lines ps)))
 
-form-numbers : (w : Word) (ns : List ℤ) (ps : List (Both (List ℤ) (List Line))) → length ns ≡ entry w .numbers → kinds ps ≡ entry w .parts → All (λ p. Same-numbers (p .kind) (p .left) (p .right)) ps → Same-numbers (entry w .kind) (ns ++ joined (λ ms. ms) (lefts ps)) (form-lines w ns (rights ps))
-form-numbers w ns [] few want all = refl
-form-numbers w ns (p ∷ ps) few want all =
-    let inner : List Line = joined (λ ls. ls) (rights (p ∷ ps)) in
+form-same-numbers : (w : Word) (ns : List ℤ) (ps : List AnyTree) → All Same-numbers ps → form-numbers w ns (folds form-numbers ps) ≡ joined line-numbers (form-lines w ns (folds form-lines ps))
+form-same-numbers w ns [] all = refl
+form-same-numbers w ns (p ∷ ps) all =
+    let inner : List Line = joined (λ ls. ls) (folds form-lines (p ∷ ps)) in
     ap (λ ms. ns ++ ms) (parts-numbers (p ∷ ps) all ∙ sym (append-nil (joined line-numbers inner)) ∙ sym (joined-append line-numbers inner (closing ∷ [])))
 
--- the numbers of a tree are those on its lines
-pub numbers-on-lines : {k : Kind} (t : Tree k) → numbers t ≡ joined line-numbers (lines t)
-numbers-on-lines t = related (λ w ns ps. ns ++ joined (λ ms. ms) ps) form-lines Same-numbers form-numbers t
+pub numbers-on-lines : {k : Kind} (t : Tree k) → Same-numbers (any t)
+numbers-on-lines =
+    induct Same-numbers
+    (λ w ns ps made all. made .folded form-numbers ∙ form-same-numbers w ns ps all ∙ sym (ap (joined line-numbers) (made .folded form-lines)))
 
 all-split : {X : Type 0} (P : X → Type 0) (xs ys : List X) → All P (xs ++ ys) → All P xs × All P ys
 all-split P [] ys all = (tt, all)

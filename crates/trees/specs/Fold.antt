@@ -44,10 +44,13 @@ word-of t = fold (λ w ns ps. w) t
 abbrev pub numbers-of : {k : Kind} → Tree k → List ℤ
 numbers-of t = fold (λ w ns ps. ns) t
 
--- the kinds of a form's parts in order, each by the part's own word
-abbrev pub part-kinds : {k : Kind} → Tree k → List Kind
-part-kinds t = fold {X = Kind × List Kind} (λ w ns ps. (entry w .kind, map (λ p. p .0) ps)) t .1
+-- a form's kind, by the table of words, and those of its parts in order
+abbrev pub form-kinds : Word → List ℤ → List (Kind × List Kind) → Kind × List Kind
+form-kinds w ns ps = (entry w .kind, map (λ p. p .0) ps)
 
--- Every tree is built by the table of words: it is of its word's kind, and has as many numbers and parts of such kinds as the table says.
+abbrev pub part-kinds : {k : Kind} → Tree k → List Kind
+part-kinds t = fold form-kinds t .1
+
+-- Every tree is built by the table: it is of its word's kind, and has as many numbers, and parts of such kinds, as the table says.
 abbrev pub Built-by-table : Type 0
 Built-by-table = (k : Kind) (t : Tree k) → (k ≡ entry (word-of t) .kind) × (length (numbers-of t) ≡ entry (word-of t) .numbers) × (part-kinds t ≡ entry (word-of t) .parts)

@@ -4,6 +4,7 @@ use lib.IntN.{ℤ, natAbs}
 use mathlib.Core.List.{List, foldr, _++_}
 use Rattle.std.specs.shelf.Lists.{All, joined, sum}
 use Rattle.trees.specs.declared.Kind.{Kind}
+use Rattle.trees.specs.declared.words.Word.{Word}
 use Rattle.trees.specs.Fold.{fold}
 use Rattle.trees.specs.Tree.{Tree}
 
@@ -15,9 +16,12 @@ size t = fold (λ w ns ps. suc (sum ps)) t
 abbrev pub depth : {k : Kind} → Tree k → ℕ
 depth t = fold (λ w ns ps. suc (foldr max 0 ps)) t
 
--- every number that stands in the tree
+-- the numbers in a form: its own, and those in its parts
+abbrev pub form-numbers : Word → List ℤ → List (List ℤ) → List ℤ
+form-numbers w ns ps = ns ++ joined (λ ms. ms) ps
+
 abbrev pub numbers : {k : Kind} → Tree k → List ℤ
-numbers t = fold (λ w ns ps. ns ++ joined (λ ms. ms) ps) t
+numbers t = fold form-numbers t
 
 abbrev pub Numbers-within : ℕ → {k : Kind} → Tree k → Type 0
 Numbers-within bound t = All (λ n. natAbs n ≤ bound) (numbers t)
@@ -30,11 +34,11 @@ max-forms = 64
 abbrev pub max-depth : ℕ
 max-depth = 16
 
--- the size of the greatest number that a text may write
+-- how far from 0 a number in a query may be
 abbrev pub literal-bound : ℕ
 literal-bound = 1_000_000
 
 pub record Within-limits {k : Kind} (t : Tree k) : Type 0 where
-  pub forms : size t ≤ max-forms
-  pub depths : depth t ≤ max-depth
-  pub literals : Numbers-within literal-bound t
+  pub few : size t ≤ max-forms
+  pub shallow : depth t ≤ max-depth
+  pub small : Numbers-within literal-bound t

@@ -32,17 +32,17 @@ abbrev pub lines : {k : Kind} → Tree k → List Line
 lines t = fold form-lines t
 
 -- the word, and each number after one space in decimal
-abbrev pub head : Word → List ℤ → List ℕ
-head w ns = entry w .spelling ++ joined (λ n. codes " " ++ signed n) ns
+abbrev pub heading : Word → List ℤ → List ℕ
+heading w ns = entry w .spelling ++ joined (λ n. codes " " ++ signed n) ns
 
 -- the bytes of a line, with its line end
-abbrev pub bytes : Line → List ℕ
-bytes (opening w ns) = codes "(" ++ (head w ns ++ line-end)
-bytes (leaf w ns) = codes "(" ++ (head w ns ++ (codes ")" ++ line-end))
-bytes closing = codes ")" ++ line-end
+abbrev pub line-bytes : Line → List ℕ
+line-bytes (opening w ns) = codes "(" ++ (heading w ns ++ line-end)
+line-bytes (leaf w ns) = codes "(" ++ (heading w ns ++ (codes ")" ++ line-end))
+line-bytes closing = codes ")" ++ line-end
 
 abbrev pub written : {k : Kind} → Tree k → List ℕ
-written t = joined bytes (lines t)
+written t = joined line-bytes (lines t)
 
 -- Trees with the same written form are the same tree, of the same kind. The numbers are those that fit 64 bits, as `signed` writes them.
 abbrev pub Written-once : Type 0
