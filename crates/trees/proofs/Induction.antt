@@ -1,9 +1,9 @@
 -- Induction on trees, once for all words: a tree is made of a word, numbers and parts as the table has them.
-use lib.IntN.{ℤ, pos}
-use lib.ListN.{length, getD}
 use mathlib.Core.List.{List, [], _∷_, map}
 use mathlib.Core.Path.{_≡_, refl}
 use Prim.Native.Nat.{ℕ}
+use lib.IntN.{ℤ, pos}
+use lib.ListN.{length, getD}
 use Rattle.std.specs.shelf.Lists.{All}
 use Rattle.trees.specs.declared.Kind.{Kind}
 use Rattle.trees.specs.declared.Kind.the-variants.{Term, Condition, Bag, Number}

@@ -1,4 +1,5 @@
 pub mod Induction
+pub mod Limits
 pub mod Lines
 pub mod Rebuild
 pub mod Spelling

@@ -1,13 +1,13 @@
 -- The bytes of a list of lines tell the lines.
-use lib.Chars.{codes}
-use lib.IntN.{ℤ, pos, negsuc, natAbs}
-use lib.ListN.{length}
-use lib.Signed.{mag}
 use mathlib.Core.List.{List, [], _∷_, _++_, append-assoc, head-eq-of-cons-eq, tail-eq-of-cons-eq}
 use mathlib.Core.Logic.{_⊎_, inl, inr}
 use mathlib.Core.Path.{_≡_, refl, sym, ap, ap₂, subst, _∙_}
 use native.Mathlib.Omega.{arith}
 use Prim.Native.Nat.{ℕ, suc, _≤_, _<_, _^_, _-_, _+_, _%_}
+use lib.Chars.{codes}
+use lib.IntN.{ℤ, pos, negsuc, natAbs}
+use lib.ListN.{length}
+use lib.Signed.{mag}
 use Rattle.std.proofs.shelf.Decimals.{decimal-by-steps, same-from-signed}
 use Rattle.std.proofs.shelf.Elements.{all-push}
 use Rattle.std.specs.shelf.Lists.{All, joined}
@@ -16,7 +16,7 @@ use Rattle.std.specs.Written.{signed, decimal}
 use Rattle.trees.proofs.Spelling.{letters, spelled-apart}
 use Rattle.trees.specs.declared.words.Word.{Word}
 use Rattle.trees.specs.Words.{entry}
-use Rattle.trees.specs.Written.{Line, heading, line-bytes}
+use Rattle.trees.specs.Written.{Line, heading, line-bytes, line-numbers}
 use Rattle.trees.specs.Written.Line.{opening, leaf, closing}
 
 -- no byte of P comes first
@@ -85,12 +85,6 @@ head-apart w v ns ms xs ys f g s t e =
     let r = run-apart (In 97 122) (entry w .spelling) (entry v .spelling) (spaced ns ++ xs) (spaced ms ++ ys) (letters w) (letters v) (stops ns xs s) (stops ms ys t) parts in
     let rest = numbers-apart ns ms xs ys f g s t (r .1) in
     (spelled-apart w v (r .0), rest .0, rest .1)
-
--- the numbers on a line
-abbrev pub line-numbers : Line → List ℤ
-line-numbers (opening w ns) = ns
-line-numbers (leaf w ns) = ns
-line-numbers closing = []
 
 -- the same of a form's line, up to what ends it
 form-apart : (w v : Word) (ns ms : List ℤ) (zs us xs ys : List ℕ) → All Fits ns → All Fits ms → Stops Inner (zs ++ xs) → Stops Inner (us ++ ys) → (codes "(" ++ (heading w ns ++ zs)) ++ xs ≡ (codes "(" ++ (heading v ms ++ us)) ++ ys → (w ≡ v) × (ns ≡ ms) × (zs ++ xs ≡ us ++ ys)

@@ -1,11 +1,11 @@
 -- A tree is built again from its lines.
-use lib.IntN.{ℤ}
-use lib.ListN.{length, take, drop}
 use mathlib.Core.List.{List, [], _∷_, _++_, append-assoc, head-eq-of-cons-eq}
 use mathlib.Core.Path.{_≡_, refl, sym, ap, ap₂, _∙_}
+use lib.IntN.{ℤ}
+use lib.ListN.{length, take, drop}
 use Rattle.std.proofs.shelf.Lists.{take-at, drop-at, length-map}
 use Rattle.std.specs.shelf.Lists.{All, joined}
-use Rattle.trees.proofs.Induction.{make, folds, Made, induct}
+use Rattle.trees.proofs.Induction.{make, folds, induct}
 use Rattle.trees.specs.declared.Kind.{Kind}
 use Rattle.trees.specs.declared.words.Word.{Word}
 use Rattle.trees.specs.Tree.{Tree, AnyTree, any}

@@ -1,22 +1,22 @@
 -- A word and its spelling: each is found by the other.
 use mathlib.Core.Bool.{Bool, true, false, cond, _&&_}
 use mathlib.Core.List.{List, [], _∷_}
-use mathlib.Core.Path.{_≡_, refl, sym, ap, subst, _∙_}
+use mathlib.Core.Logic.{⊎-elim}
+use mathlib.Core.Path.{_≡_, refl, sym, ap, _∙_}
 use Prim.Native.Nat.{ℕ, _+_, _<_}
+use lib.Dec.{leb}
 use lib.ListN.{length, getD, drop}
+use Rattle.std.proofs.shelf.Equals.{sameBytes-decides}
 use Rattle.std.proofs.shelf.Lists.{drop-more}
 use Rattle.std.proofs.shelf.Tests.{cond-true, cond-false, cases-bool, and-parts, leb-true}
-use mathlib.Core.Logic.{⊎-elim}
-use Rattle.std.proofs.shelf.Equals.{sameBytes-decides}
 use Rattle.std.specs.declared.option.Option.{Option}
-use Rattle.std.specs.declared.option.Option.the-variants.{Some, None}
+use Rattle.std.specs.declared.option.Option.the-variants.{Some}
 use Rattle.std.specs.shelf.Lists.{All}
 use Rattle.std.specs.shelf.Text.{sameBytes}
 use Rattle.std.specs.Text.{In, within}
-use lib.Dec.{leb}
 use Rattle.trees.specs.declared.words.Word.{Word}
 use Rattle.trees.specs.declared.words.Word.the-variants.{Bag, Keep, Put, Pool, Col, Lit, Plus, Times, Pick, Less, Equal, Either, Not, Num, Setting, Var, Count, Sum, Add, Sub, Least, Most, Scale, Clip, Let}
-use Rattle.trees.specs.Words.{entry, words, spelled-in, word-spelled, Names, Spelled-apart}
+use Rattle.trees.specs.Words.{entry, all-words, spelled-in, word-spelled, Names, Spelled-apart}
 
 pub found : (w : Word) → word-spelled (entry w .spelling) ≡ Some w
 unfolding word-spelled
@@ -66,7 +66,7 @@ found-spelling (v ∷ ws) bs w e = spelled-by v w bs (spelled-in ws bs) (found-s
 
 pub names : (bs : List ℕ) → Names bs (word-spelled bs)
 unfolding word-spelled
-names bs w = (found-spelling words bs w, λ e. ap word-spelled e ∙ found w)
+names bs w = (found-spelling all-words bs w, λ e. ap word-spelled e ∙ found w)
 
 -- a step through the words: the answer is here, or with the words that follow
 module _ (ws : List Word) (i : ℕ) (d : Word) (bs : List ℕ) (h : i < length ws) where
@@ -94,9 +94,9 @@ found-passes test (v ∷ ws) bs w all e =
     let (here, later) = and-parts (test v) (every test ws) all in
     pass-by test v w (spelled-in ws bs) here (found-passes test ws bs w later) (sameBytes (entry v .spelling) bs) e
 
-pub each-word : (test : Word → Bool) → every test words ≡ true → (w : Word) → test w ≡ true
+pub each-word : (test : Word → Bool) → every test all-words ≡ true → (w : Word) → test w ≡ true
 unfolding word-spelled
-each-word test all w = found-passes test words (entry w .spelling) w all (found w)
+each-word test all w = found-passes test all-words (entry w .spelling) w all (found w)
 
 pub all-from-every : {X : Type 0} (test : X → Bool) (P : X → Type 0) → ((x : X) → test x ≡ true → P x) → (xs : List X) → every test xs ≡ true → All P xs
 all-from-every test P passed [] all = tt

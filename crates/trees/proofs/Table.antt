@@ -1,7 +1,7 @@
 -- The table of words tells what stands in a form.
-use lib.ListN.{length}
 use mathlib.Core.List.{List, [], _∷_, map}
 use mathlib.Core.Path.{_≡_, refl, sym, ap, ap₂, _∙_}
+use lib.ListN.{length}
 use Rattle.std.specs.shelf.Lists.{All}
 use Rattle.trees.proofs.Induction.{make, folds, induct}
 use Rattle.trees.specs.declared.Kind.{Kind}
@@ -10,7 +10,7 @@ use Rattle.trees.specs.Fold.{fold, word-of, numbers-of, form-kinds, part-kinds
 use Rattle.trees.specs.Tree.{Tree, AnyTree, any}
 use Rattle.trees.specs.Words.{entry}
 
--- what the law says of one tree, and that the kinds of parts begin with its own
+-- the table gives a tree its own kind, and what the law says of it
 abbrev By-table : AnyTree → Type 0
 By-table p = (fold form-kinds (p .1) .0 ≡ p .0) × ((p .0 ≡ entry (word-of (p .1)) .kind) × (length (numbers-of (p .1)) ≡ entry (word-of (p .1)) .numbers) × (part-kinds (p .1) ≡ entry (word-of (p .1)) .parts))
 

@@ -1,8 +1,8 @@
 -- Recursion on a tree: what comes of a form, from its word, its numbers and what came of its parts.
-use lib.IntN.{ℤ}
-use lib.ListN.{length}
 use mathlib.Core.List.{List, [], _∷_, map}
 use mathlib.Core.Path.{_≡_}
+use lib.IntN.{ℤ}
+use lib.ListN.{length}
 use Rattle.trees.specs.declared.Kind.{Kind}
 use Rattle.trees.specs.declared.words.Word.{Word}
 use Rattle.trees.specs.declared.words.Word.the-variants.{Bag, Keep, Put, Pool, Col, Lit, Plus, Times, Pick, Less, Equal, Either, Not, Num, Setting, Var, Count, Sum, Add, Sub, Least, Most, Scale, Clip, Let}
@@ -44,7 +44,7 @@ word-of t = fold (λ w ns ps. w) t
 abbrev pub numbers-of : {k : Kind} → Tree k → List ℤ
 numbers-of t = fold (λ w ns ps. ns) t
 
--- a form's kind, by the table of words, and those of its parts in order
+-- the kind that the table gives a form, and those of its parts in order
 abbrev pub form-kinds : Word → List ℤ → List (Kind × List Kind) → Kind × List Kind
 form-kinds w ns ps = (entry w .kind, map (λ p. p .0) ps)
 

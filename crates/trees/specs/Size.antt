@@ -1,7 +1,7 @@
 -- The size of a tree: how many forms, how deep, how large its numbers; and the limits of a query.
+use mathlib.Core.List.{List, foldr, _++_}
 use Prim.Native.Nat.{ℕ, suc, max, _≤_}
 use lib.IntN.{ℤ, natAbs}
-use mathlib.Core.List.{List, foldr, _++_}
 use Rattle.std.specs.shelf.Lists.{All, joined, sum}
 use Rattle.trees.specs.declared.Kind.{Kind}
 use Rattle.trees.specs.declared.words.Word.{Word}
@@ -9,12 +9,18 @@ use Rattle.trees.specs.Fold.{fold}
 use Rattle.trees.specs.Tree.{Tree}
 
 -- a form counts once, and so does each form in its parts
+abbrev pub form-size : Word → List ℤ → List ℕ → ℕ
+form-size w ns ps = suc (sum ps)
+
 abbrev pub size : {k : Kind} → Tree k → ℕ
-size t = fold (λ w ns ps. suc (sum ps)) t
+size t = fold form-size t
 
 -- a form without parts has depth 1
+abbrev pub form-depth : Word → List ℤ → List ℕ → ℕ
+form-depth w ns ps = suc (foldr max 0 ps)
+
 abbrev pub depth : {k : Kind} → Tree k → ℕ
-depth t = fold (λ w ns ps. suc (foldr max 0 ps)) t
+depth t = fold form-depth t
 
 -- the numbers in a form: its own, and those in its parts
 abbrev pub form-numbers : Word → List ℤ → List (List ℤ) → List ℤ

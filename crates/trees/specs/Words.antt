@@ -1,10 +1,10 @@
 -- The table of words: how each is spelled, what its form gives, how many numbers follow it, and the kinds of its parts.
-use Prim.Native.Nat.{ℕ}
-use Prim.Native.String.{String}
-use lib.Chars.{codes}
 use mathlib.Core.Bool.{cond}
 use mathlib.Core.List.{List, [], _∷_}
 use mathlib.Core.Path.{_≡_}
+use Prim.Native.Nat.{ℕ}
+use Prim.Native.String.{String}
+use lib.Chars.{codes}
 use Rattle.std.specs.declared.option.Option.{Option}
 use Rattle.std.specs.declared.option.Option.the-variants.{Some, None}
 use Rattle.std.specs.shelf.Text.{sameBytes}
@@ -23,6 +23,7 @@ pub record Entry : Type 0 where
 abbrev row : String → Kind → ℕ → List Kind → Entry
 row s k n ks = record { spelling = codes s; kind = k; numbers = n; parts = ks }
 
+-- word: spelling, kind, how many numbers, kinds of the parts in order
 abbrev pub entry : Word → Entry
 entry Word.Bag = row "bag" Bag 1 []
 entry Keep = row "keep" Bag 0 (Bag ∷ Condition ∷ [])
@@ -51,16 +52,17 @@ entry Clip = row "clip" Number 2 (Number ∷ [])
 entry Let = row "let" Number 0 (Number ∷ Number ∷ [])
 
 -- every word once
-abbrev pub words : List Word
-words = Word.Bag ∷ Keep ∷ Put ∷ Pool ∷ Col ∷ Lit ∷ Plus ∷ Times ∷ Pick ∷ Less ∷ Equal ∷ Either ∷ Not ∷ Num ∷ Setting ∷ Var ∷ Count ∷ Sum ∷ Add ∷ Sub ∷ Least ∷ Most ∷ Scale ∷ Clip ∷ Let ∷ []
+abbrev pub all-words : List Word
+all-words = Word.Bag ∷ Keep ∷ Put ∷ Pool ∷ Col ∷ Lit ∷ Plus ∷ Times ∷ Pick ∷ Less ∷ Equal ∷ Either ∷ Not ∷ Num ∷ Setting ∷ Var ∷ Count ∷ Sum ∷ Add ∷ Sub ∷ Least ∷ Most ∷ Scale ∷ Clip ∷ Let ∷ []
 
 -- the first of ws that is spelled bs
 abbrev pub spelled-in : List Word → List ℕ → Option Word
 spelled-in [] bs = None
 spelled-in (w ∷ ws) bs = cond (sameBytes (entry w .spelling) bs) (Some w) (spelled-in ws bs)
 
+-- the word that is spelled bs, if any is
 unfoldable pub word-spelled : List ℕ → Option Word
-word-spelled bs = spelled-in words bs
+word-spelled bs = spelled-in all-words bs
 
 -- r is the word w exactly when bs is how w is spelled, for every word
 abbrev pub Names : List ℕ → Option Word → Type 0

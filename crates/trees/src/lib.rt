@@ -1,4 +1,4 @@
-// What a query is: four kinds of forms. The tree, its meaning and its written form are in specs/.
+// What a query is: forms of four kinds, each of one of 25 words. The tree, its meaning and its written form are in specs/.
 pub mod laws;
 pub mod words;
 

@@ -1,7 +1,7 @@
 // The words of a query, by one table: how each is spelled, what its form gives, and what stands in it.
 ghost use mathlib.Core.Path.{_≡_};
 ghost use Rattle.std.specs.Orderings.{Decides};
-ghost use Rattle.trees.specs.Words.{entry, spelled-in, word-spelled, Names, Spelled-apart};
+ghost use Rattle.trees.specs.Words.{entry, all-words, spelled-in, word-spelled, Names, Spelled-apart};
 use crate::Kind;
 
 #[derive(Clone, Copy, Debug)]
@@ -73,13 +73,13 @@ const WORDS: [Word; 25] = [
 ];
 
 impl Word {
-    // The word with this spelling. Looks through all words.
+    // The word with this spelling, by a look through all 25.
     pub fn named(spelling: &[u8]) -> Option<Word>
         ensures found { λ r. ⌜ r ≡ word-spelled (now (spelling .entry)) ⌝ }
-        ensures law { λ r. ⌜ Names (now (spelling .entry)) r ⌝ }
+        ensures exactly { λ r. ⌜ Names (now (spelling .entry)) r ⌝ }
         ensures apart { λ _. ⌜ Spelled-apart ⌝ }
     {
-        first_spelled(&WORDS, spelling)
+        in_table(spelling)
     }
 
     pub fn spelling(self) -> &'static [u8]
@@ -167,10 +167,16 @@ impl Word {
     }
 }
 
-fn first_spelled(words: &[Word], spelling: &[u8]) -> Option<Word>
-    ensures { λ r. ⌜ r ≡ spelled-in (now (words .entry)) (now (spelling .entry)) ⌝ }
+fn in_table(spelling: &[u8]) -> Option<Word>
+    ensures { λ r. ⌜ r ≡ spelled-in all-words (now (spelling .entry)) ⌝ }
 {
-    for word in words {
+    first_spelled(&WORDS, spelling)
+}
+
+fn first_spelled(among: &[Word], spelling: &[u8]) -> Option<Word>
+    ensures { λ r. ⌜ r ≡ spelled-in (now (among .entry)) (now (spelling .entry)) ⌝ }
+{
+    for word in among {
         if word.spelling() == spelling {
             return Some(*word);
         }

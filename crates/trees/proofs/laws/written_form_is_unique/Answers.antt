@@ -1,5 +1,5 @@
-use Rattle.trees.proofs.Unique.{written-once}
+use Rattle.trees.proofs.Unique.{written-example, written-once}
 use Rattle.trees.proofs.laws.written_form_is_unique.Needs as need
 
 pub returns : need.returns
-returns c = written-once
+returns c = record { once = written-once; example = written-example }

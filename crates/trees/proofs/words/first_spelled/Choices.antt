@@ -5,4 +5,4 @@ use Rattle.trees.specs.Words.{spelled-in}
 
 -- the words that are left give the same answer as all of them
 abbrev pub Inv-loop-word : given.InvT-loop-word
-Inv-loop-word l = spelled-in (drop (l .word-index) (l .words)) (l .spelling) ≡ spelled-in (l .words) (l .spelling)
+Inv-loop-word l = spelled-in (drop (l .word-index) (l .among)) (l .spelling) ≡ spelled-in (l .among) (l .spelling)

@@ -7,7 +7,7 @@ pub returns : need.returns
 unfolding word-spelled
 returns c =
     record {
-      found = c .first-spelled .ensures;
-      law = subst (Names (c .args .spelling .now)) (sym (c .first-spelled .ensures)) (names (c .args .spelling .now));
+      found = c .in-table .ensures;
+      exactly = subst (Names (c .args .spelling .now)) (sym (c .in-table .ensures)) (names (c .args .spelling .now));
       apart = spelled-apart;
     }
