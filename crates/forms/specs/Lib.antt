@@ -1,3 +1,4 @@
+pub mod Calm
 pub mod Held
 pub mod Limits
 pub mod Table

@@ -1,10 +1,12 @@
 -- Which tree stands at a position of a table. A table lists its forms in closing order: a part before its whole.
+use mathlib.Core.Path.{_≡_}
 use mathlib.Core.List.{List, [], _∷_, _++_}
 use Prim.Native.Nat.{ℕ}
 use lib.IntN.{ℤ}
-use lib.ListN.{getD}
+use lib.ListN.{getD, take}
 use Rattle.std.specs.declared.option.Option.{Option}
 use Rattle.std.specs.declared.option.Option.the-variants.{Some, None}
+use Rattle.trees.specs.declared.Kind.{Kind}
 use Rattle.trees.specs.declared.Kind.the-variants.{Term, Condition, Bag, Number}
 use Rattle.trees.specs.Tree.{Tree}
 use Rattle.trees.specs.Tree.Tree.{bag, keep, put, pool, col, lit, plus, times, pick, less, equal, either, not, num, setting, var, count, sum, add, sub, least, most, scale, clip, let-in}
@@ -12,36 +14,49 @@ use Rattle.forms.specs.declared.form.Entry.{Entry}
 use Rattle.forms.specs.declared.form.Form.{Form}
 use Rattle.forms.specs.declared.form.Form.the-variants as form
 
+-- the tree of a form, by its kind
+abbrev pub TermTree : Type 0
+TermTree = Tree Term
+
+abbrev pub ConditionTree : Type 0
+ConditionTree = Tree Condition
+
+abbrev pub BagTree : Type 0
+BagTree = Tree Bag
+
+abbrev pub NumberTree : Type 0
+NumberTree = Tree Number
+
 -- the tree at a position, of one of four kinds, or none where the parts do not fit
 pub data Part : Type 0 where
   bad : Part
-  a-term : Tree Term → Part
-  a-condition : Tree Condition → Part
-  a-bag : Tree Bag → Part
-  a-number : Tree Number → Part
+  a-term : TermTree → Part
+  a-condition : ConditionTree → Part
+  a-bag : BagTree → Part
+  a-number : NumberTree → Part
 
-abbrev pub as-term : Part → Option (Tree Term)
+abbrev pub as-term : Part → Option TermTree
 as-term bad = None
 as-term (a-term t) = Some t
 as-term (a-condition c) = None
 as-term (a-bag b) = None
 as-term (a-number n) = None
 
-abbrev pub as-condition : Part → Option (Tree Condition)
+abbrev pub as-condition : Part → Option ConditionTree
 as-condition bad = None
 as-condition (a-term t) = None
 as-condition (a-condition c) = Some c
 as-condition (a-bag b) = None
 as-condition (a-number n) = None
 
-abbrev pub as-bag : Part → Option (Tree Bag)
+abbrev pub as-bag : Part → Option BagTree
 as-bag bad = None
 as-bag (a-term t) = None
 as-bag (a-condition c) = None
 as-bag (a-bag b) = Some b
 as-bag (a-number n) = None
 
-abbrev pub as-number : Part → Option (Tree Number)
+abbrev pub as-number : Part → Option NumberTree
 as-number bad = None
 as-number (a-term t) = None
 as-number (a-condition c) = None
@@ -65,17 +80,45 @@ of-three f (Some x) o p = of-two (f x) o p
 abbrev pub nth : List Part → ℕ → Part
 nth ps p = getD ps p bad
 
-abbrev pub term-in : List Part → ℕ → Option (Tree Term)
+abbrev pub term-in : List Part → ℕ → Option TermTree
 term-in ps p = as-term (nth ps p)
 
-abbrev pub condition-in : List Part → ℕ → Option (Tree Condition)
+abbrev pub condition-in : List Part → ℕ → Option ConditionTree
 condition-in ps p = as-condition (nth ps p)
 
-abbrev pub bag-in : List Part → ℕ → Option (Tree Bag)
+abbrev pub bag-in : List Part → ℕ → Option BagTree
 bag-in ps p = as-bag (nth ps p)
 
-abbrev pub number-in : List Part → ℕ → Option (Tree Number)
+abbrev pub number-in : List Part → ℕ → Option NumberTree
 number-in ps p = as-number (nth ps p)
+
+-- the kind that a form's word has
+abbrev pub form-kind : Form → Kind
+form-kind (form.Bag k) = Bag
+form-kind (form.Keep b c) = Bag
+form-kind (form.Put j b t) = Bag
+form-kind (form.Pool a b) = Bag
+form-kind (form.Col j) = Term
+form-kind (form.Lit n) = Term
+form-kind (form.Plus a b) = Term
+form-kind (form.Times a b) = Term
+form-kind (form.Pick c a b) = Term
+form-kind (form.Less a b) = Condition
+form-kind (form.Equal a b) = Condition
+form-kind (form.Either a b) = Condition
+form-kind (form.Not c) = Condition
+form-kind (form.Num n) = Number
+form-kind (form.Setting k) = Number
+form-kind (form.Var i) = Number
+form-kind (form.Count b) = Number
+form-kind (form.Sum lo hi b t) = Number
+form-kind (form.Add a b) = Number
+form-kind (form.Sub a b) = Number
+form-kind (form.Least a b) = Number
+form-kind (form.Most a b) = Number
+form-kind (form.Scale n a) = Number
+form-kind (form.Clip lo hi a) = Number
+form-kind (form.Let a b) = Number
 
 -- what a form makes of the parts before it
 abbrev pub build : List Part → Form → Part
@@ -117,3 +160,7 @@ parts es = parts-from [] es
 unfoldable pub part-at : List Entry → ℕ → Part
 unfolding parts
 part-at es p = nth (parts es) p
+
+-- f is the form at the position: its part is what f makes of the parts before
+abbrev pub Stands : List Entry → ℕ → Form → Type 0
+Stands es p f = part-at es p ≡ build (take p (parts es)) f

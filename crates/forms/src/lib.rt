@@ -1,3 +1,4 @@
 // The table that spells a query's tree, and the evaluation of its terms, conditions, numbers and bags on plain values.
 pub mod form;
 pub mod table;
+pub mod terms;

@@ -1,0 +1,38 @@
+-- Signed operations whose result is known to lie within a bound.
+use mathlib.Core.Path.{_≡_, refl, sym, _∙_, ap, ap₂, subst}
+use Prim.Native.Nat.{ℕ, _≤_, _<_, _^_}
+use native.Mathlib.Omega.{arith}
+use mathlib.Core.Bool.{_&&_}
+use lib.Dec.{T, eqb}
+use lib.IntN.{ℤ, pos, negsuc, natAbs}
+use lib.Signed.{leZ, nonNeg}
+use mir.Syntax.{w64}
+use mir.Val.{Fits, SFits, ofZ, toZ}
+use Rattle.std.proofs.shelf.Signed.{ints, toZ-ofZ, toZ-pos}
+use Rattle.forms.specs.Calm.{Within, PlaceBelow}
+
+-- what lies within 10^12 fits 64 bits
+pub fits : (n : ℕ) (z : ℤ) → n ≤ 10 ^ 12 → Within n z → SFits w64 z
+fits n z h k = omega (arith, ints)
+
+-- the bits of x are those of v
+pub back : (x v : ℤ) → SFits w64 x → x ≡ v → toZ w64 (ofZ w64 x) ≡ v
+back x v f e = toZ-ofZ w64 x f ∙ e
+
+-- an operation on x and y, which are v and w
+pub op-fits : (op : ℤ → ℤ → ℤ) (n : ℕ) (x y v w : ℤ) → n ≤ 10 ^ 12 → SFits w64 x → SFits w64 y → x ≡ v → y ≡ w → Within n (op v w) → SFits w64 (op (toZ w64 (ofZ w64 x)) (toZ w64 (ofZ w64 y)))
+op-fits op n x y v w small f g e h k = subst (SFits w64) (sym (ap₂ op (back x v f e) (back y w g h))) (fits n (op v w) small k)
+
+pub op-is : (op : ℤ → ℤ → ℤ) (n : ℕ) (x y v w : ℤ) → n ≤ 10 ^ 12 → SFits w64 x → SFits w64 y → x ≡ v → y ≡ w → Within n (op v w) → toZ w64 (ofZ w64 (op (toZ w64 (ofZ w64 x)) (toZ w64 (ofZ w64 y)))) ≡ op v w
+op-is op n x y v w small f g e h k = toZ-ofZ w64 (op (toZ w64 (ofZ w64 x)) (toZ w64 (ofZ w64 y))) (op-fits op n x y v w small f g e h k) ∙ ap₂ op (back x v f e) (back y w g h)
+
+-- a place is cast with nothing lost
+pub place-is : (n : ℕ) (z : ℤ) → n ≤ 10 ^ 12 → (k : PlaceBelow n z) → toZ w64 (ofZ w64 z) ≡ pos (k .0)
+place-is n z small k = back z (pos (k .0)) (subst (SFits w64) (sym (k .1)) (fits n (pos (k .0)) small (omega (arith, k .2)))) (k .1)
+
+pub place-cast : (n : ℕ) (z : ℤ) → n ≤ 10 ^ 12 → PlaceBelow n z → T (nonNeg (toZ w64 (ofZ w64 z))) × Fits w64 (natAbs (toZ w64 (ofZ w64 z)))
+place-cast n z small k = subst (λ x. T (nonNeg x) × Fits w64 (natAbs x)) (sym (place-is n z small k)) (tt, omega (arith, k .2))
+
+-- equal bits are equal numbers
+pub same-bits : (x y : ℤ) → SFits w64 x → SFits w64 y → eqb (ofZ w64 x) (ofZ w64 y) ≡ (leZ x y && leZ y x)
+same-bits x y f g = grind (arith, ints)
