@@ -9,6 +9,7 @@ use lib.Signed.{leZ, nonNeg}
 use mir.Syntax.{w64}
 use mir.Val.{Fits, SFits, ofZ, toZ}
 use Rattle.std.proofs.shelf.Signed.{ints, toZ-ofZ, toZ-pos}
+use Rattle.trees.specs.Meaning.{clipped}
 use Rattle.forms.specs.Calm.{Within, PlaceBelow}
 
 -- what lies within 10^12 fits 64 bits
@@ -36,3 +37,8 @@ place-cast n z small k = subst (λ x. T (nonNeg x) × Fits w64 (natAbs x)) (sym 
 -- equal bits are equal numbers
 pub same-bits : (x y : ℤ) → SFits w64 x → SFits w64 y → eqb (ofZ w64 x) (ofZ w64 y) ≡ (leZ x y && leZ y x)
 same-bits x y f g = grind (arith, ints)
+
+-- the bits of the limits and of x, which is v
+pub clip-is : (lo hi x v : ℤ) → SFits w64 lo → SFits w64 hi → SFits w64 x → x ≡ v → clipped (toZ w64 (ofZ w64 lo)) (toZ w64 (ofZ w64 hi)) (toZ w64 (ofZ w64 x)) ≡ clipped lo hi v
+clip-is lo hi x v f g h e =
+    ap (λ y. clipped y (toZ w64 (ofZ w64 hi)) (toZ w64 (ofZ w64 x))) (back lo lo f refl) ∙ ap₂ (clipped lo) (back hi hi g refl) (back x v h e)

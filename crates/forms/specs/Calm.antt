@@ -1,14 +1,15 @@
 -- Where evaluation stays within its bounds: every part's value is within the bound, and every place that a form names is there.
 use mathlib.Core.Path.{_≡_}
-use mathlib.Core.List.{List}
+use mathlib.Core.List.{List, _∷_}
 use Prim.Native.Nat.{ℕ, _≤_, _<_}
 use lib.IntN.{ℤ, pos, natAbs}
-use Rattle.trees.specs.Meaning.{Row, value}
-use Rattle.trees.specs.Tree.Tree.{col, lit, plus, times, pick, less, equal, either, not}
+use lib.ListN.{length}
+use Rattle.trees.specs.Meaning.{Inputs, Row, number, value}
+use Rattle.trees.specs.Tree.Tree.{col, lit, plus, times, pick, less, equal, either, not, num, setting, var, count, sum, add, sub, least, most, scale, clip, let-in}
 use Rattle.forms.specs.declared.form.Entry.{Entry}
-use Rattle.forms.specs.Limits.{cells, term-bound}
-use Rattle.forms.specs.Table.{TermTree, ConditionTree, part-at}
-use Rattle.forms.specs.Table.Part.{a-term, a-condition}
+use Rattle.forms.specs.Limits.{cells, number-bound, term-bound}
+use Rattle.forms.specs.Table.{ConditionTree, NumberTree, TermTree, part-at}
+use Rattle.forms.specs.Table.Part.{a-condition, a-term}
 
 -- z is at most n away from 0
 abbrev pub Within : ℕ → ℤ → Type 0
@@ -40,3 +41,22 @@ CalmTermAt es p r = (t : TermTree) × (part-at es p ≡ a-term t) × CalmTerm t 
 -- a calm condition stands at the position
 abbrev pub CalmConditionAt : List Entry → ℕ → Row → Type 0
 CalmConditionAt es p r = (c : ConditionTree) × (part-at es p ≡ a-condition c) × CalmCondition c r
+
+-- what a query is asked of, by its sources and settings
+abbrev pub inputs : List (List Row) → List ℤ → Inputs
+inputs sources settings = record { sources = sources; settings = settings }
+
+-- each part of the number has a value within the bound
+abbrev pub CalmNumber : NumberTree → Inputs → List ℤ → Type 0
+CalmNumber (num n) i vars = Within number-bound n
+CalmNumber (setting k) i vars = PlaceBelow 2 k × Within number-bound (number (setting k) i vars)
+CalmNumber (var v) i vars = PlaceBelow (length vars) v × Within number-bound (number (var v) i vars)
+CalmNumber (count b) i vars = Within number-bound (number (count b) i vars)
+CalmNumber (sum lo hi b t) i vars = Within number-bound (number (sum lo hi b t) i vars)
+CalmNumber (add a b) i vars = Within number-bound (number (add a b) i vars) × CalmNumber a i vars × CalmNumber b i vars
+CalmNumber (sub a b) i vars = Within number-bound (number (sub a b) i vars) × CalmNumber a i vars × CalmNumber b i vars
+CalmNumber (least a b) i vars = CalmNumber a i vars × CalmNumber b i vars
+CalmNumber (most a b) i vars = CalmNumber a i vars × CalmNumber b i vars
+CalmNumber (scale n a) i vars = Within number-bound (number (scale n a) i vars) × CalmNumber a i vars
+CalmNumber (clip lo hi a) i vars = CalmNumber a i vars
+CalmNumber (let-in a b) i vars = CalmNumber a i vars × CalmNumber b i (number a i vars ∷ vars)
