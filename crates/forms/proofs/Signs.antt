@@ -5,11 +5,12 @@ use native.Mathlib.Omega.{arith}
 use mathlib.Core.Bool.{_&&_}
 use lib.Dec.{T, eqb}
 use lib.IntN.{ℤ, pos, negsuc, natAbs}
+use lib.ListN.{set}
 use lib.Signed.{leZ, nonNeg}
 use mir.Syntax.{w64}
 use mir.Val.{Fits, SFits, ofZ, toZ}
 use Rattle.std.proofs.shelf.Signed.{ints, toZ-ofZ, toZ-pos}
-use Rattle.trees.specs.Meaning.{clipped}
+use Rattle.trees.specs.Meaning.{Row, clipped, with-cell}
 use Rattle.forms.specs.Calm.{Within, PlaceBelow}
 
 -- what lies within 10^12 fits 64 bits
@@ -42,3 +43,7 @@ same-bits x y f g = grind (arith, ints)
 pub clip-is : (lo hi x v : ℤ) → SFits w64 lo → SFits w64 hi → SFits w64 x → x ≡ v → clipped (toZ w64 (ofZ w64 lo)) (toZ w64 (ofZ w64 hi)) (toZ w64 (ofZ w64 x)) ≡ clipped lo hi v
 clip-is lo hi x v f g h e =
     ap (λ y. clipped y (toZ w64 (ofZ w64 hi)) (toZ w64 (ofZ w64 x))) (back lo lo f refl) ∙ ap₂ (clipped lo) (back hi hi g refl) (back x v h e)
+
+-- a cell is put at a place with nothing lost
+pub put-cell : (row : Row) (n : ℕ) (j x v : ℤ) → n ≤ 10 ^ 12 → PlaceBelow n j → SFits w64 x → x ≡ v → set row (natAbs (toZ w64 (ofZ w64 j))) (toZ w64 (ofZ w64 x)) ≡ with-cell row j v
+put-cell row n j x v small k f e = ap₂ (set row) (ap natAbs (place-is n j small k)) (back x v f e) ∙ sym (ap (λ z. with-cell row z v) (k .1))
