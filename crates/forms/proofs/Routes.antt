@@ -148,24 +148,24 @@ pub record Left (es : List Entry) (ps : List ℕ) (row : Row) (arrives : Option 
   pub same : carried way row ≡ arrives
 
 -- the next step on it, and what is left behind that
-pub record Ahead (es : List Entry) (ps : List ℕ) (i : ℕ) (row : Row) (arrives : Option Row) : Type 0 where
+pub record Ahead (es : List Entry) (ps : List ℕ) (i at : ℕ) (row : Row) (arrives : Option Row) : Type 0 where
   pub s : Step
-  pub here : StepAt es (getD ps i 0) s
+  pub here : StepAt es at s
   pub calm : CalmStep s row
   pub dropped : stepped s row ≡ None → arrives ≡ None
   pub goes : (r : Row) → stepped s row ≡ Some r → Left es (drop (i + 1) ps) r arrives
 
-pub ahead : (es : List Entry) (ps : List ℕ) (i : ℕ) (row : Row) (arrives : Option Row) → i < length ps → Left es (drop i ps) row arrives → Ahead es ps i row arrives
-ahead es ps i row arrives h l =
+pub ahead : (es : List Entry) (ps : List ℕ) (i at : ℕ) (row : Row) (arrives : Option Row) → i < length ps → at ≡ getD ps i 0 → Left es (drop i ps) row arrives → Ahead es ps i at row arrives
+ahead es ps i at row arrives h e l =
     let n = next es ps i (l .way) h (l .leads) in
     let calm : CalmWay (n .s ∷ n .after) row = subst (λ way. CalmWay way row) (n .is) (l .calm) in
     let same : and-then (stepped (n .s) row) (carried (n .after)) ≡ arrives = sym (ap (λ way. carried way row) (n .is)) ∙ l .same in
     record {
       s = n .s;
-      here = n .here;
+      here = subst (λ p. StepAt es p (n .s)) (sym e) (n .here);
       calm = calm .0;
-      dropped = λ e. sym same ∙ ap (λ o. and-then o (carried (n .after))) e;
-      goes = λ r e. record { way = n .after; leads = n .leads; calm = subst (CalmFrom (CalmWay (n .after))) e (calm .1); same = sym (ap (λ o. and-then o (carried (n .after))) e) ∙ same };
+      dropped = λ d. sym same ∙ ap (λ o. and-then o (carried (n .after))) d;
+      goes = λ r g. record { way = n .after; leads = n .leads; calm = subst (CalmFrom (CalmWay (n .after))) g (calm .1); same = sym (ap (λ o. and-then o (carried (n .after))) g) ∙ same };
     }
 
 -- behind the last step the row has arrived

@@ -5,6 +5,7 @@ use mathlib.Core.Path.{_≡_}
 use Prim.Native.Nat.{ℕ, _<_, _≤_, _+_, _^_}
 use lib.IntN.{ℤ, pos, _+ℤ_}
 use lib.ListN.{getD, length}
+use Rattle.std.specs.shelf.Lists.{All}
 use Rattle.std.specs.declared.option.Option.{Option}
 use Rattle.std.specs.declared.option.Option.the-variants.{Some, None}
 use Rattle.std.specs.declared.result.Result.{Result}
@@ -117,3 +118,29 @@ CalmFrom P (Some r) = P r
 abbrev pub CalmWay : List Step → Row → Type 0
 CalmWay [] r = Unit {0}
 CalmWay (s ∷ way) r = CalmStep s r × CalmFrom (CalmWay way) (stepped s r)
+
+-- the same of every row of the bag's parts
+abbrev pub CalmBag : BagTree → List (List Row) → Type 0
+CalmBag (bag k) sources = Unit {0}
+CalmBag (keep b c) sources = CalmBag b sources × All (CalmCondition c) (rows b sources)
+CalmBag (put j b t) sources = CalmBag b sources × PlaceBelow cells j × All (CalmTerm t) (rows b sources)
+CalmBag (pool a b) sources = CalmBag a sources × CalmBag b sources
+
+-- each cell that is put lies within the width of the rows
+abbrev pub WayWithin : ℕ → List Step → Type 0
+WayWithin width [] = Unit {0}
+WayWithin width (keeps c ∷ way) = WayWithin width way
+WayWithin width (puts j t ∷ way) = PlaceBelow width j × WayWithin width way
+
+abbrev pub BagWithin : ℕ → BagTree → Type 0
+BagWithin width (bag k) = Unit {0}
+BagWithin width (keep b c) = BagWithin width b
+BagWithin width (put j b t) = PlaceBelow width j × BagWithin width b
+BagWithin width (pool a b) = BagWithin width a × BagWithin width b
+
+-- what is so of a bag is so of its leaves
+pub record Spread (b : BagTree) : Type 0 where
+  pub arrive : AllArrive b
+  pub counted : AllCounted b
+  pub calm : (sources : List (List Row)) → CalmBag b sources → All (λ l. All (CalmWay (l .way)) (at sources (l .source) [])) (leaves b)
+  pub within : (width : ℕ) → BagWithin width b → All (λ l. WayWithin width (l .way)) (leaves b)

@@ -6,7 +6,6 @@ use lib.IntN.{ℤ}
 use lib.ListN.{getD, take}
 use Rattle.std.specs.declared.option.Option.{Option}
 use Rattle.std.specs.declared.option.Option.the-variants.{Some, None}
-use Rattle.trees.specs.declared.Kind.{Kind}
 use Rattle.trees.specs.declared.Kind.the-variants.{Term, Condition, Bag, Number}
 use Rattle.trees.specs.Tree.{Tree}
 use Rattle.trees.specs.Tree.Tree.{bag, keep, put, pool, col, lit, plus, times, pick, less, equal, either, not, num, setting, var, count, sum, add, sub, least, most, scale, clip, let-in}
@@ -91,34 +90,6 @@ bag-in ps p = as-bag (nth ps p)
 
 abbrev pub number-in : List Part → ℕ → Option NumberTree
 number-in ps p = as-number (nth ps p)
-
--- the kind that a form's word has
-abbrev pub form-kind : Form → Kind
-form-kind (form.Bag k) = Bag
-form-kind (form.Keep b c) = Bag
-form-kind (form.Put j b t) = Bag
-form-kind (form.Pool a b) = Bag
-form-kind (form.Col j) = Term
-form-kind (form.Lit n) = Term
-form-kind (form.Plus a b) = Term
-form-kind (form.Times a b) = Term
-form-kind (form.Pick c a b) = Term
-form-kind (form.Less a b) = Condition
-form-kind (form.Equal a b) = Condition
-form-kind (form.Either a b) = Condition
-form-kind (form.Not c) = Condition
-form-kind (form.Num n) = Number
-form-kind (form.Setting k) = Number
-form-kind (form.Var i) = Number
-form-kind (form.Count b) = Number
-form-kind (form.Sum lo hi b t) = Number
-form-kind (form.Add a b) = Number
-form-kind (form.Sub a b) = Number
-form-kind (form.Least a b) = Number
-form-kind (form.Most a b) = Number
-form-kind (form.Scale n a) = Number
-form-kind (form.Clip lo hi a) = Number
-form-kind (form.Let a b) = Number
 
 -- what a form makes of the parts before it
 abbrev pub build : List Part → Form → Part

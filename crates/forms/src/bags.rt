@@ -4,8 +4,9 @@ ghost use Prim.Native.Nat.{_≤_};
 ghost use lib.ListN.{length};
 ghost use mathlib.Core.List.{List};
 ghost use mathlib.Core.Path.{_≡_};
-ghost use Rattle.forms.specs.Leaves.{AllArrive, AllCounted, CalmStep, CalmWay, Found, Leads, Sought, Step, StepAt, carried, leaves, stepped};
+ghost use Rattle.forms.specs.Leaves.{CalmStep, CalmWay, Found, Leads, Sought, Spread, Step, StepAt, carried, leaves, stepped};
 ghost use Rattle.forms.specs.Limits.{room};
+ghost use Rattle.forms.specs.Padding.{Unseen};
 ghost use Rattle.forms.specs.Route.{steps-of};
 ghost use Rattle.forms.specs.Table.{BagTree, part-at};
 ghost use Rattle.forms.specs.Table.Part.{a-bag};
@@ -49,7 +50,7 @@ pub fn find_route(entries: &[Entry], top: usize, nth: usize) -> Option<Route>
     requires few { ⌜ length (now entries) ≤ room ⌝ }
     requires is { ⌜ ((b : BagTree) × (part-at (now entries) top ≡ a-bag b)) ⌝ }
     ensures found { λ r. ⌜ ((b : BagTree) → part-at (now (entries .entry)) top ≡ a-bag b → Found (now (entries .entry)) top (leaves b) nth r) ⌝ }
-    ensures law { λ _. ⌜ ((b : BagTree) → AllArrive b × AllCounted b) ⌝ }
+    ensures law { λ _. ⌜ ((b : BagTree) → Spread b) ⌝ }
 {
     seek(entries, top, nth).ok()
 }
@@ -79,7 +80,8 @@ fn pass(entries: &[Entry], at: usize, mut row: [i64; 6]) -> Option<[i64; 6]>
 // A row of the leaf's source at the top of the bag; none where a keep form on the way drops it.
 pub fn carry(entries: &[Entry], route: &Route, row: &[i64; 6]) -> Option<[i64; 6]>
     requires { ⌜ ((way : List Step) × Leads (now entries) (steps-of (now route)) way × CalmWay way (now row)) ⌝ }
-    ensures { λ r. ⌜ ((way : List Step) → Leads (now (entries .entry)) (steps-of (now (route .entry))) way → CalmWay way (now (row .entry)) → r ≡ carried way (now (row .entry))) ⌝ }
+    ensures carried { λ r. ⌜ ((way : List Step) → Leads (now (entries .entry)) (steps-of (now (route .entry))) way → CalmWay way (now (row .entry)) → r ≡ carried way (now (row .entry))) ⌝ }
+    ensures law { λ _. ⌜ Unseen ⌝ }
 {
     let mut carried = *row;
     for i in 0..route.len() {

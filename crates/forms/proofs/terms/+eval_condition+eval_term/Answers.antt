@@ -12,16 +12,11 @@ use Rattle.forms.specs.Calm.{CalmTerm, CalmCondition}
 use Rattle.forms.specs.Limits.{cells}
 use Rattle.forms.proofs.Parts.{one, two, three, leaf, terms, conditions, reached, for-all}
 use Rattle.forms.proofs.Signs.{back, op-fits, op-is, place-cast, same-bits}
-use Rattle.forms.proofs.Words.{kind-of, has-word}
 use Rattle.forms.proofs.terms.+eval_condition+eval_term.Needs as need
 
 pub eval-term-form-at-requires : need.eval-term-form-at-requires
 eval-term-form-at-requires t c κs =
     reached terms (λ z. CalmTerm z (c .args .row .now)) (c .args .entries .now) (c .args .at) (c .pre)
-
-pub eval-term-cast-result : need.eval-term-cast-result
-eval-term-cast-result t c =
-    place-cast cells (c .in-Col .column) (omega arith) (leaf terms (λ z. CalmTerm z (c .args .row .now)) (c .args .entries .now) (c .args .at) (col (c .in-Col .column)) (c .pre) (c .in-Col .ensures tt .stands) .1 .0)
 
 pub eval-term-eval-term-requires : need.eval-term-eval-term-requires
 eval-term-eval-term-requires t c κs =
@@ -77,10 +72,6 @@ pub eval-term-eval-term-requires-else-eval-condition : need.eval-term-eval-term-
 eval-term-eval-term-requires-else-eval-condition t c κs =
     let i = three conditions terms terms terms pick (λ z. CalmTerm z (c .args .row .now)) (c .args .entries .now) (c .args .at) (c .in-Pick .condition) (c .in-Pick .first) (c .in-Pick .second) (c .pre) (c .in-Pick .ensures tt .stands) in
     (omega (arith, i .third .below, c .measured), (i .w, i .third .is, i .known .2))
-
-pub eval-term-unreachable-requires : need.eval-term-unreachable-requires
-eval-term-unreachable-requires t c κs =
-    has-word Term _ (c .form-at .result) _ (c .form-at .ensures .stands) (ap kind-of (c .pre .1)) (c .in-rest .not-Col, c .in-rest .not-Lit, c .in-rest .not-Plus, c .in-rest .not-Times, c .in-rest .not-Pick)
 
 pub eval-term-returns-then-eval-condition : need.eval-term-returns-then-eval-condition
 eval-term-returns-then-eval-condition t c =
@@ -150,10 +141,6 @@ pub eval-condition-eval-condition-requires-in-Not : need.eval-condition-eval-con
 eval-condition-eval-condition-requires-in-Not t c κs =
     let i = one conditions conditions not (λ z. CalmCondition z (c .args .row .now)) (c .args .entries .now) (c .args .at) (c .in-Not .condition) (c .pre) (c .in-Not .ensures tt .stands) in
     (omega (arith, i .first .below, c .measured), (i .x, i .first .is, i .known))
-
-pub eval-condition-unreachable-requires : need.eval-condition-unreachable-requires
-eval-condition-unreachable-requires t c κs =
-    has-word Condition _ (c .form-at .result) _ (c .form-at .ensures .stands) (ap kind-of (c .pre .1)) (c .in-rest .not-Less, c .in-rest .not-Equal, c .in-rest .not-Either, c .in-rest .not-Not)
 
 pub eval-condition-returns-in-Not : need.eval-condition-returns-in-Not
 eval-condition-returns-in-Not t c =

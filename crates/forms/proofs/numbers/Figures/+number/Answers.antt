@@ -16,7 +16,6 @@ use Rattle.forms.specs.Table.Part.{a-number}
 use Rattle.forms.specs.Totals.{Ready, totalled}
 use Rattle.forms.proofs.Parts.{Known, one, two, leaf, numbers, bags, terms, reached}
 use Rattle.forms.proofs.Signs.{back, clip-is, op-fits, op-is}
-use Rattle.forms.proofs.Words.{kind-of, has-word}
 use Rattle.forms.proofs.numbers.Figures.+number.Needs as need
 
 -- the number that is ready, as what is known at its position
