@@ -3,7 +3,7 @@ use mathlib.Core.Bool.{Bool, true, false, cond, _||_, not as negated}
 use mathlib.Core.List.{List, [], _∷_, _++_}
 use mathlib.Core.Path.{_≡_, refl, sym, _∙_, ap, ap₂, subst}
 use native.Mathlib.Omega.{arith}
-use Prim.Native.Nat.{ℕ, zero, suc, _+_, _-_, _<_, _≤_}
+use Prim.Native.Nat.{ℕ, zero, suc, _+_, _-_, _≤_}
 use lib.IntN.{ℤ, pos, negsuc, _+ℤ_, _*ℤ_}
 use lib.ListN.{getD, length, replicate, set}
 use lib.Signed.{ltZ}
@@ -14,7 +14,7 @@ use Rattle.std.specs.declared.option.Option.the-variants.{Some, None}
 use Rattle.trees.specs.Meaning.{Row, at, eqZ, holds, value, with-cell}
 use Rattle.trees.specs.Tree.Tree.{col, lit, plus, times, pick, less, equal, either, not}
 use Rattle.forms.specs.Calm.{CalmCondition, CalmTerm, PlaceBelow, Within}
-use Rattle.forms.specs.Leaves.{CalmFrom, CalmStep, CalmWay, Step, WayWithin, and-then, arriving, carried, stepped}
+use Rattle.forms.specs.Leaves.{CalmFrom, CalmWay, Step, WayWithin, and-then, arriving, carried}
 use Rattle.forms.specs.Leaves.Step.{keeps, puts}
 use Rattle.forms.specs.Limits.{cells, term-bound}
 use Rattle.forms.specs.Padding.{Blind, Unseen, padded}

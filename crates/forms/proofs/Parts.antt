@@ -1,16 +1,15 @@
 -- What stands at a position of a table, from the form there and the parts before it.
 use mathlib.Core.Path.{_≡_, refl, sym, _∙_, ap, subst}
-use mathlib.Core.Logic.{_⊎_, inl, inr}
+use mathlib.Core.Logic.{inl, inr}
 use mathlib.Core.List.{List, [], _∷_, _++_}
 use Prim.Native.Nat.{ℕ, zero, suc, _+_, _≤_, _<_}
 use native.Mathlib.Omega.{arith}
 use lib.ListN.{length, getD, take}
-use Rattle.std.proofs.shelf.Lists.{getD-past, getD-take, getD-push, length-push, length-take, take-append-le, take-all, take-take, getD-append-left, take-at}
+use Rattle.std.proofs.shelf.Lists.{getD-past, getD-take, getD-push, length-push, length-take, take-append-le, take-at}
 use Rattle.std.proofs.shelf.Tests.{cases-lt}
 use Rattle.std.specs.declared.option.Option.{Option}
 use Rattle.std.specs.declared.option.Option.the-variants.{Some, None}
 use Rattle.forms.specs.declared.form.Entry.{Entry}
-use Rattle.forms.specs.declared.form.Form.{Form}
 use Rattle.forms.specs.Table.{TermTree, ConditionTree, BagTree, NumberTree, Part, as-term, as-condition, as-bag, as-number, of-one, of-two, of-three, nth, build, parts-from, parts, part-at}
 use Rattle.forms.specs.Table.Part.{bad, a-term, a-condition, a-bag, a-number}
 
@@ -193,10 +192,6 @@ three {X} {Y} {W} {Z} F G K H mk C es p a b c k s = go (F .back (nth (take p (pa
     go (Some x) i =
         let r : Two G K (mk x) C es p b c (k .0) = two G K H (mk x) C es p b c k (s ∙ ap (λ o. of-three (λ x y w. H .into (mk x y w)) o (G .back (nth (take p (parts es)) b)) (K .back (nth (take p (parts es)) c))) i) in
         record { x = x; y = r .x; w = r .y; is = r .is; known = r .known; first = found F es p a x i; second = r .first; third = r .second }
-
--- a form without parts
-pub leaf : {Z : Type 0} (H : Family Z) (C : Z → Type 0) (es : List Entry) (p : ℕ) (u : Z) (k : Known H C es p) → part-at es p ≡ H .into u → (k .0 ≡ u) × C u
-leaf H C es p u k s = let is : k .0 ≡ u = whole H (part-at es p) (k .0) u (k .1) s in (is, subst C is (k .2))
 
 -- the table reaches to where something stands
 pub reached : {Z : Type 0} (H : Family Z) (C : Z → Type 0) (es : List Entry) (p : ℕ) → Known H C es p → p < length es

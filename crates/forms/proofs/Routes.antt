@@ -19,12 +19,12 @@ use Rattle.trees.specs.Meaning.{Row}
 use Rattle.trees.specs.Tree.Tree.{keep, put, pool}
 use Rattle.forms.specs.declared.form.Entry.{Entry}
 use Rattle.forms.specs.declared.form.Form.{Form}
-use Rattle.forms.specs.declared.form.Form.the-variants.{Keep, Put, Pool}
+use Rattle.forms.specs.declared.form.Form.the-variants.{Keep, Put}
 use Rattle.forms.specs.declared.route.Route.{Route}
 use Rattle.forms.specs.Leaves.{CalmFrom, CalmStep, CalmWay, Follows, Found, Leads, Leaf, Sought, Step, StepAt, and-then, carried, leaves, no-leaf, stepped, through}
 use Rattle.forms.specs.Leaves.Step.{keeps, puts}
 use Rattle.forms.specs.Route.{from-source, steps-of}
-use Rattle.forms.specs.Table.{BagTree, ConditionTree, Stands, TermTree, build, part-at, parts}
+use Rattle.forms.specs.Table.{BagTree, ConditionTree, Stands, TermTree, build, part-at}
 use Rattle.forms.specs.Table.Part.{a-bag, a-condition, a-term}
 use Rattle.forms.proofs.Parts.{bags, conditions, reached, terms, two}
 

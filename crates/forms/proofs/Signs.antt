@@ -1,15 +1,15 @@
 -- Signed operations whose result is known to lie within a bound.
 use mathlib.Core.Path.{_≡_, refl, sym, _∙_, ap, ap₂, subst}
-use Prim.Native.Nat.{ℕ, _≤_, _<_, _^_}
+use Prim.Native.Nat.{ℕ, _≤_, _^_}
 use native.Mathlib.Omega.{arith}
 use mathlib.Core.Bool.{_&&_}
-use lib.Dec.{T, eqb}
-use lib.IntN.{ℤ, pos, negsuc, natAbs}
+use lib.Dec.{eqb}
+use lib.IntN.{ℤ, pos, natAbs}
 use lib.ListN.{set}
-use lib.Signed.{leZ, nonNeg}
+use lib.Signed.{leZ}
 use mir.Syntax.{w64}
-use mir.Val.{Fits, SFits, ofZ, toZ}
-use Rattle.std.proofs.shelf.Signed.{ints, toZ-ofZ, toZ-pos}
+use mir.Val.{SFits, ofZ, toZ}
+use Rattle.std.proofs.shelf.Signed.{ints, toZ-ofZ}
 use Rattle.trees.specs.Meaning.{Row, clipped, with-cell}
 use Rattle.forms.specs.Calm.{Within, PlaceBelow}
 
@@ -31,9 +31,6 @@ op-is op n x y v w small f g e h k = toZ-ofZ w64 (op (toZ w64 (ofZ w64 x)) (toZ 
 -- a place is cast with nothing lost
 pub place-is : (n : ℕ) (z : ℤ) → n ≤ 10 ^ 12 → (k : PlaceBelow n z) → toZ w64 (ofZ w64 z) ≡ pos (k .0)
 place-is n z small k = back z (pos (k .0)) (subst (SFits w64) (sym (k .1)) (fits n (pos (k .0)) small (omega (arith, k .2)))) (k .1)
-
-pub place-cast : (n : ℕ) (z : ℤ) → n ≤ 10 ^ 12 → PlaceBelow n z → T (nonNeg (toZ w64 (ofZ w64 z))) × Fits w64 (natAbs (toZ w64 (ofZ w64 z)))
-place-cast n z small k = subst (λ x. T (nonNeg x) × Fits w64 (natAbs x)) (sym (place-is n z small k)) (tt, omega (arith, k .2))
 
 -- equal bits are equal numbers
 pub same-bits : (x y : ℤ) → SFits w64 x → SFits w64 y → eqb (ofZ w64 x) (ofZ w64 y) ≡ (leZ x y && leZ y x)

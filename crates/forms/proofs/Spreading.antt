@@ -1,16 +1,15 @@
 -- What is so of every row of a bag is so of what its leaves carry up.
 use mathlib.Core.Bool.{Bool, true, false, cond}
 use mathlib.Core.List.{List, [], _∷_, _++_, map}
-use mathlib.Core.Path.{_≡_, refl, sym, subst}
+use mathlib.Core.Path.{sym, subst}
 use Prim.Native.Nat.{ℕ}
-use lib.IntN.{ℤ}
 use Rattle.std.proofs.shelf.Elements.{all-append, all-map, all-weaker}
 use Rattle.std.specs.declared.option.Option.{Option}
 use Rattle.std.specs.declared.option.Option.the-variants.{Some, None}
 use Rattle.std.specs.shelf.Lists.{All, kept-by}
 use Rattle.trees.specs.Meaning.{Row, at, holds, rows, value, with-cell}
 use Rattle.trees.specs.Tree.Tree.{bag, keep, put, pool}
-use Rattle.forms.specs.Calm.{CalmCondition, CalmTerm}
+use Rattle.forms.specs.Calm.{CalmTerm}
 use Rattle.forms.specs.Leaves.{BagWithin, CalmBag, CalmFrom, CalmStep, CalmWay, Leaf, Spread, Step, WayWithin, and-then, carried, leaves, stepped, through}
 use Rattle.forms.specs.Leaves.Step.{keeps, puts}
 use Rattle.forms.specs.Table.{BagTree}

@@ -13,6 +13,7 @@ ghost use Rattle.forms.specs.Table.Part.{a-bag};
 use crate::form::Entry;
 use crate::form::Form;
 use crate::form::form_at;
+use crate::limits::CELLS;
 use crate::route::Route;
 use crate::terms::eval_condition;
 use crate::terms::eval_term;
@@ -56,7 +57,7 @@ pub fn find_route(entries: &[Entry], top: usize, nth: usize) -> Option<Route>
 }
 
 // A row after the keep or put form at a position; none where it is dropped.
-fn pass(entries: &[Entry], at: usize, mut row: [i64; 6]) -> Option<[i64; 6]>
+fn pass(entries: &[Entry], at: usize, mut row: [i64; CELLS]) -> Option<[i64; CELLS]>
     requires { ⌜ ((s : Step) × StepAt (now entries) at s × CalmStep s row) ⌝ }
     ensures { λ r. ⌜ ((s : Step) → StepAt (now (entries .entry)) at s → r ≡ stepped s row) ⌝ }
 {
@@ -78,7 +79,7 @@ fn pass(entries: &[Entry], at: usize, mut row: [i64; 6]) -> Option<[i64; 6]>
 }
 
 // A row of the leaf's source at the top of the bag; none where a keep form on the way drops it.
-pub fn carry(entries: &[Entry], route: &Route, row: &[i64; 6]) -> Option<[i64; 6]>
+pub fn carry(entries: &[Entry], route: &Route, row: &[i64; CELLS]) -> Option<[i64; CELLS]>
     requires { ⌜ ((way : List Step) × Leads (now entries) (steps-of (now route)) way × CalmWay way (now row)) ⌝ }
     ensures carried { λ r. ⌜ ((way : List Step) → Leads (now (entries .entry)) (steps-of (now (route .entry))) way → CalmWay way (now (row .entry)) → r ≡ carried way (now (row .entry))) ⌝ }
     ensures law { λ _. ⌜ Unseen ⌝ }

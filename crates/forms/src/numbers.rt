@@ -12,6 +12,7 @@ ghost use Rattle.forms.specs.Totals.{Ready};
 use crate::form::Entry;
 use crate::form::Form;
 use crate::form::form_at;
+use crate::limits::ROOM;
 use crate::scope::Scope;
 
 // `x` cut to `high` at most, and then to `low` at least.
@@ -25,7 +26,7 @@ pub fn clip(low: i64, high: i64, x: i64) -> i64
 #[derive(Clone, Copy)]
 pub struct Figures<'a> {
     pub entries: &'a [Entry],
-    pub totals: &'a [i64; 64],
+    pub totals: &'a [i64; ROOM],
     pub settings: &'a [i64; 2],
 }
 

@@ -3,6 +3,7 @@ ghost use Prim.Native.Nat.{_≤_};
 ghost use lib.ListN.{length};
 ghost use mathlib.Core.Path.{_≡_};
 ghost use Rattle.forms.specs.Limits.{room};
+use crate::limits::ROOM;
 
 mod calls;
 
@@ -10,7 +11,7 @@ mod calls;
 #[derive(Clone, Copy)]
 pub struct Route {
     source: i64,
-    steps: [usize; 64],
+    steps: [usize; ROOM],
     len: usize,
     ghost full: { length steps ≡ room },
     ghost within: { len ≤ room },

@@ -6,9 +6,6 @@ use crate::form::Entry;
 
 mod calls;
 
-// How many entries a table holds at most.
-pub const ROOM: usize = 64;
-
 // The room for all entries is there from the start, so that none is refused for memory.
 #[derive(Drop)]
 pub struct Table {

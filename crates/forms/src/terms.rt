@@ -7,9 +7,10 @@ ghost use Rattle.forms.specs.Table.Part.{a-condition, a-term};
 use crate::form::Entry;
 use crate::form::Form;
 use crate::form::form_at;
+use crate::limits::CELLS;
 
 // The value on `row` of the term at a position. The cost is linear in its size.
-pub fn eval_term(entries: &[Entry], at: usize, row: &[i64; 6]) -> i64
+pub fn eval_term(entries: &[Entry], at: usize, row: &[i64; CELLS]) -> i64
     requires { ⌜ CalmTermAt (now entries) at (now row) ⌝ }
     ensures { λ r. ⌜ ((t : TermTree) → part-at (now (entries .entry)) at ≡ a-term t → r ≡ value t (now (row .entry))) ⌝ }
 {
@@ -36,7 +37,7 @@ pub fn eval_term(entries: &[Entry], at: usize, row: &[i64; 6]) -> i64
 }
 
 // Whether the condition at a position holds on `row`. The cost is linear in its size.
-pub fn eval_condition(entries: &[Entry], at: usize, row: &[i64; 6]) -> bool
+pub fn eval_condition(entries: &[Entry], at: usize, row: &[i64; CELLS]) -> bool
     requires { ⌜ CalmConditionAt (now entries) at (now row) ⌝ }
     ensures { λ r. ⌜ ((c : ConditionTree) → part-at (now (entries .entry)) at ≡ a-condition c → r ≡ holds c (now (row .entry))) ⌝ }
 {

@@ -6,6 +6,7 @@ ghost use mathlib.Core.Path.{_≡_};
 ghost use Rattle.forms.specs.Limits.{room};
 ghost use Rattle.forms.specs.Route.{from-source, steps-of};
 use super::Route;
+use crate::limits::ROOM;
 
 impl Route {
     // From a leaf that is itself the top.
@@ -15,7 +16,7 @@ impl Route {
     {
         Route {
             source,
-            steps: [0; 64],
+            steps: [0; ROOM],
             len: 0,
         }
     }

@@ -7,6 +7,7 @@ ghost use mathlib.Core.Path.{_≡_};
 ghost use Rattle.forms.specs.Limits.{room};
 ghost use Rattle.forms.specs.Scope.{in-scope, spare};
 use super::Scope;
+use crate::limits::ROOM;
 
 impl Scope {
     // No variable is in scope.
@@ -15,8 +16,8 @@ impl Scope {
         ensures spare { λ r. ⌜ spare r ≡ room ⌝ }
     {
         Scope {
-            values: [0; 64],
-            first: 64,
+            values: [0; ROOM],
+            first: ROOM,
         }
     }
 

@@ -9,10 +9,10 @@ ghost use Rattle.std.specs.Vec.{made};
 ghost use Rattle.std.specs.declared.result.Result.the-variants.{Err, Ok};
 ghost use Rattle.forms.specs.Held.{held};
 ghost use Rattle.forms.specs.Limits.{room};
-use super::ROOM;
 use super::Table;
 use super::TableFault;
 use crate::form::Entry;
+use crate::limits::ROOM;
 use std::alloc::AllocError;
 use std::alloc::Global;
 

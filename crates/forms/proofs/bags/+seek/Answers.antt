@@ -1,11 +1,9 @@
-use mathlib.Core.Path.{_≡_, refl, sym, _∙_, ap, subst}
+use mathlib.Core.Path.{sym, subst}
 use native.Mathlib.Omega.{arith}
-use borrow.Author.Needs.{needs}
 use Rattle.std.proofs.shelf.Results.{err-from-errBy}
-use Rattle.std.specs.declared.result.Result.the-variants.{Ok, Err}
+use Rattle.std.specs.declared.result.Result.the-variants.{Ok}
 use Rattle.trees.specs.Tree.Tree.{pool}
 use Rattle.forms.specs.Leaves.{Sought, leaves}
-use Rattle.forms.specs.Table.{BagTree}
 use Rattle.forms.proofs.Parts.{bags, reached, two}
 use Rattle.forms.proofs.Routes.{sought-first, sought-second, sought-up, sought-up-none, upward}
 use Rattle.forms.proofs.bags.+seek.Needs as need

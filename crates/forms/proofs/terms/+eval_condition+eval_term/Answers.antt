@@ -1,17 +1,15 @@
-use mathlib.Core.Bool.{cond, _||_, not as negated}
-use mathlib.Core.Path.{_≡_, refl, sym, _∙_, ap, ap₂, subst}
+use mathlib.Core.Bool.{_||_, not as negated}
+use mathlib.Core.Path.{sym, _∙_, ap, ap₂}
 use native.Mathlib.Omega.{arith}
-use lib.IntN.{ℤ, _+ℤ_, _*ℤ_}
+use lib.IntN.{_+ℤ_, _*ℤ_}
 use lib.Signed.{ltZ}
 use borrow.Author.Needs.{needs}
-use Rattle.trees.specs.declared.Kind.the-variants.{Term, Condition}
 use Rattle.trees.specs.Meaning.{value, holds, eqZ}
-use Rattle.trees.specs.Tree.Tree.{col, plus, times, pick, less, equal, either, not}
+use Rattle.trees.specs.Tree.Tree.{plus, times, pick, less, equal, either, not}
 use Rattle.std.proofs.shelf.Tests.{cond-true, cond-false, or-left}
 use Rattle.forms.specs.Calm.{CalmTerm, CalmCondition}
-use Rattle.forms.specs.Limits.{cells}
-use Rattle.forms.proofs.Parts.{one, two, three, leaf, terms, conditions, reached, for-all}
-use Rattle.forms.proofs.Signs.{back, op-fits, op-is, place-cast, same-bits}
+use Rattle.forms.proofs.Parts.{one, two, three, terms, conditions, reached, for-all}
+use Rattle.forms.proofs.Signs.{back, op-fits, op-is, same-bits}
 use Rattle.forms.proofs.terms.+eval_condition+eval_term.Needs as need
 
 pub eval-term-form-at-requires : need.eval-term-form-at-requires

@@ -5,16 +5,15 @@ use Prim.Native.Nat.{ℕ}
 use lib.IntN.{ℤ, _+ℤ_, _-ℤ_, _*ℤ_}
 use borrow.Author.Needs.{needs}
 use Rattle.std.specs.Numbers.{minZ, maxZ}
-use Rattle.trees.specs.declared.Kind.the-variants.{Number}
-use Rattle.trees.specs.Meaning.{Row, number, clipped}
-use Rattle.trees.specs.Tree.Tree.{num, setting, var, count, sum, add, sub, least, most, scale, clip, let-in}
+use Rattle.trees.specs.Meaning.{Row, number}
+use Rattle.trees.specs.Tree.Tree.{count, sum, add, sub, least, most, scale, clip, let-in}
 use Rattle.forms.specs.declared.form.Entry.{Entry}
 use Rattle.forms.specs.Calm.{CalmNumber, inputs}
 use Rattle.forms.specs.Scope.{in-scope}
 use Rattle.forms.specs.Table.{NumberTree, part-at}
 use Rattle.forms.specs.Table.Part.{a-number}
 use Rattle.forms.specs.Totals.{Ready, totalled}
-use Rattle.forms.proofs.Parts.{Known, one, two, leaf, numbers, bags, terms, reached}
+use Rattle.forms.proofs.Parts.{Known, one, two, numbers, bags, terms, reached}
 use Rattle.forms.proofs.Signs.{back, clip-is, op-fits, op-is}
 use Rattle.forms.proofs.numbers.Figures.+number.Needs as need
 

@@ -1,8 +1,8 @@
 use mathlib.Core.List.{_∷_}
-use mathlib.Core.Path.{_≡_, _∙_, refl, ap, ap₂}
+use mathlib.Core.Path.{_∙_, refl, ap₂}
 use native.Mathlib.Omega.{arith}
-use Prim.Native.Nat.{_+_, _-_, _<_}
-use lib.ListN.{drop, length}
+use Prim.Native.Nat.{_-_}
+use lib.ListN.{drop}
 use Rattle.std.proofs.shelf.Lists.{drop-set}
 use Rattle.forms.proofs.Signs.{back}
 use Rattle.forms.proofs.scope.Scope.with.Needs as need
