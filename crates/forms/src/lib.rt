@@ -7,3 +7,5 @@ pub mod route;
 pub mod scope;
 pub mod table;
 pub mod terms;
+#[cfg(test)]
+mod tests;
