@@ -35,12 +35,16 @@ abbrev mutual
   CalmCondition (not c) r = CalmCondition c r
 
 -- a calm term stands at the position
-abbrev pub CalmTermAt : List Entry → ℕ → Row → Type 0
-CalmTermAt es p r = (t : TermTree) × (part-at es p ≡ a-term t) × CalmTerm t r
+pub record CalmTermAt (es : List Entry) (p : ℕ) (r : Row) : Type 0 where
+  pub tree : TermTree
+  pub is : part-at es p ≡ a-term tree
+  pub calm : CalmTerm tree r
 
 -- a calm condition stands at the position
-abbrev pub CalmConditionAt : List Entry → ℕ → Row → Type 0
-CalmConditionAt es p r = (c : ConditionTree) × (part-at es p ≡ a-condition c) × CalmCondition c r
+pub record CalmConditionAt (es : List Entry) (p : ℕ) (r : Row) : Type 0 where
+  pub tree : ConditionTree
+  pub is : part-at es p ≡ a-condition tree
+  pub calm : CalmCondition tree r
 
 -- what a query is asked of, by its sources and settings
 abbrev pub inputs : List (List Row) → List ℤ → Inputs

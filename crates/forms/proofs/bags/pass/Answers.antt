@@ -17,13 +17,13 @@ form-at-requires c κs = step-inside (c .args .entries .now) (c .args .at) (c .p
 pub eval-condition-requires : need.eval-condition-requires
 eval-condition-requires c κs =
     let k = keep-step (c .args .entries .now) (c .args .at) _ (c .in-Keep .condition) (c .pre .0) (c .in-Keep .ensures tt .stands) (c .pre .1) in
-    (k .0, k .2, subst (λ s. CalmStep s (c .args .row)) (k .1) (c .pre .2))
+    record { tree = k .0; is = k .2; calm = subst (λ s. CalmStep s (c .args .row)) (k .1) (c .pre .2) }
 
 pub eval-term-value-requires : need.eval-term-value-requires
 eval-term-value-requires c κs =
     let k = put-step (c .args .entries .now) (c .args .at) _ (c .in-Put .term) (c .in-Put .column) (c .pre .0) (c .in-Put .ensures tt .stands) (c .pre .1) in
     let calm : CalmStep (puts (c .in-Put .column) (k .0)) (c .args .row) = subst (λ s. CalmStep s (c .args .row)) (k .1) (c .pre .2) in
-    (k .0, k .2, calm .1)
+    record { tree = k .0; is = k .2; calm = calm .1 }
 
 pub returns-then-eval-condition : need.returns-then-eval-condition
 returns-then-eval-condition c = λ s h.
