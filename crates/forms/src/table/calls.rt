@@ -45,7 +45,7 @@ impl Table {
         ensures value { λ r. ⌜ r ≡ cond (ltb (length (held (now (self .entry)))) room) (Ok (length (held (now (self .entry))))) (Err TableFault.Full) ⌝ }
         ensures after { λ r. ⌜ held (now (self .exit)) ≡ cond (ltb (length (held (now (self .entry)))) room) (held (now (self .entry)) ++ entry ∷ []) (held (now (self .entry))) ⌝ }
     {
-        let at = self.entries.len();
+        let at = self.len();
         if at >= ROOM {
             return Err(TableFault::Full);
         }
