@@ -1,0 +1,9 @@
+pub mod Calm
+pub mod Held
+pub mod Leaves
+pub mod Limits
+pub mod Padding
+pub mod Route
+pub mod Scope
+pub mod Table
+pub mod Totals
