@@ -1,0 +1,5 @@
+pub mod Amounts
+pub mod Catalogue
+pub mod Ranges
+pub mod Sound
+pub mod Typing
