@@ -10,7 +10,6 @@ use lib.ListN.{getD, length, drop}
 use lib.Pow.{pow-lt}
 use Rattle.std.proofs.shelf.Lists.{drop-all, drop-more, getD-append-add, getD-append-left, getD-map, length-append, length-map, length-push}
 use Rattle.std.proofs.shelf.Tests.{cases-order}
-use Rattle.std.specs.Results.{okPart}
 use Rattle.std.specs.declared.option.Option.{Option}
 use Rattle.std.specs.declared.option.Option.the-variants.{Some, None}
 use Rattle.std.specs.declared.result.Result.{Result}
@@ -21,7 +20,7 @@ use Rattle.forms.specs.declared.form.Entry.{Entry}
 use Rattle.forms.specs.declared.form.Form.{Form}
 use Rattle.forms.specs.declared.form.Form.the-variants.{Keep, Put}
 use Rattle.forms.specs.declared.route.Route.{Route}
-use Rattle.forms.specs.Leaves.{CalmFrom, CalmStep, CalmWay, Follows, Found, Leads, Leaf, Sought, Step, StepAt, and-then, carried, leaves, no-leaf, stepped, through}
+use Rattle.forms.specs.Leaves.{CalmFrom, CalmStep, CalmWay, Follows, Leads, Leaf, Sought, Step, StepAt, and-then, carried, leaves, no-leaf, stepped, through}
 use Rattle.forms.specs.Leaves.Step.{keeps, puts}
 use Rattle.forms.specs.Route.{from-source, steps-of}
 use Rattle.forms.specs.Table.{BagTree, ConditionTree, Stands, TermTree, build, part-at}
@@ -107,11 +106,6 @@ next es ps i rest h l = go rest (subst (λ qs. Leads es qs rest) (drop-more ps i
 ended : (es : List Entry) (way : List Step) → Leads es [] way → way ≡ []
 ended es [] l = refl
 ended es (s ∷ way) l = absurd l
-
--- what a search finds, where the rest does not matter
-pub found : (es : List Entry) (p n : ℕ) (ls : List Leaf) (o : Result Route ℕ) → Sought es p ls n o → Found es p ls n (okPart o)
-found es p n ls (Ok r) h = (h .0, h .1, h .3)
-found es p n ls (Err m) h = omega (arith, h .0)
 
 -- the table reaches to a step
 pub step-inside : (es : List Entry) (p : ℕ) (s : Step) → StepAt es p s → p < length es

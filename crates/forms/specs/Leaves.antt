@@ -101,7 +101,7 @@ abbrev pub Sought : List Entry → ℕ → List Leaf → ℕ → Result Route �
 Sought es p ls n (Ok r) = (n < length ls) × Follows es r (getD ls n no-leaf) × (length (steps-of r) ≤ p) × (n < 2 ^ p)
 Sought es p ls n (Err m) = (length ls + m ≡ n) × (length ls ≤ 2 ^ p)
 
--- what can be known of leaf n: its route, and then n stays small, or that there is none
+-- leaf n: its route, or that there is none. Where there is one n stays small, so that a caller can count leaves up
 abbrev pub Found : List Entry → ℕ → List Leaf → ℕ → Option Route → Type 0
 Found es p ls n (Some r) = (n < length ls) × Follows es r (getD ls n no-leaf) × (n < 2 ^ p)
 Found es p ls n None = length ls ≤ n

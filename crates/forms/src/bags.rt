@@ -46,14 +46,16 @@ fn seek(entries: &[Entry], at: usize, nth: usize) -> Result<Route, usize>
 }
 
 // The route from leaf `nth` of the bag at `top`, leaves counted from 0 in order; none past the last leaf.
-// What arrives from all leaves is what the bag holds. Linear in the size of the bag.
+// Linear in the size of the bag.
 pub fn find_route(entries: &[Entry], top: usize, nth: usize) -> Option<Route>
     requires few { ⌜ length (now entries) ≤ room ⌝ }
     requires is { ⌜ ((b : BagTree) × (part-at (now entries) top ≡ a-bag b)) ⌝ }
-    ensures found { λ r. ⌜ ((b : BagTree) → part-at (now (entries .entry)) top ≡ a-bag b → Found (now (entries .entry)) top (leaves b) nth r) ⌝ }
-    ensures law { λ _. ⌜ ((b : BagTree) → Spread b) ⌝ }
+    ensures { λ r. ⌜ ((b : BagTree) → part-at (now (entries .entry)) top ≡ a-bag b → Found (now (entries .entry)) top (leaves b) nth r) ⌝ }
 {
-    seek(entries, top, nth).ok()
+    match seek(entries, top, nth) {
+        Ok(route) => Some(route),
+        Err(_) => None,
+    }
 }
 
 // A row after the keep or put form at a position; none where it is dropped.
@@ -78,11 +80,13 @@ fn pass(entries: &[Entry], at: usize, mut row: [i64; CELLS]) -> Option<[i64; CEL
     }
 }
 
-// A row of the leaf's source at the top of the bag; none where a keep form on the way drops it.
+// A row of the leaf's source at the top of the bag; none where a keep form on the way drops it. What arrives from all
+// leaves is what the bag holds, and a row that is padded with zeros arrives as the row does.
 pub fn carry(entries: &[Entry], route: &Route, row: &[i64; CELLS]) -> Option<[i64; CELLS]>
     requires { ⌜ ((way : List Step) × Leads (now entries) (steps-of (now route)) way × CalmWay way (now row)) ⌝ }
     ensures carried { λ r. ⌜ ((way : List Step) → Leads (now (entries .entry)) (steps-of (now (route .entry))) way → CalmWay way (now (row .entry)) → r ≡ carried way (now (row .entry))) ⌝ }
-    ensures law { λ _. ⌜ Unseen ⌝ }
+    ensures spread { λ _. ⌜ ((b : BagTree) → Spread b) ⌝ }
+    ensures unseen { λ _. ⌜ Unseen ⌝ }
 {
     let mut carried = *row;
     for i in 0..route.len() {

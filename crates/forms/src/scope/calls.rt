@@ -22,7 +22,7 @@ impl Scope {
     }
 
     // This scope with one variable more, the innermost.
-    pub fn with(&self, value: i64) -> Scope
+    pub(crate) fn with(&self, value: i64) -> Scope
         requires { ⌜ 0 < spare (now self) ⌝ }
         ensures values { λ r. ⌜ in-scope r ≡ value ∷ in-scope (now (self .entry)) ⌝ }
         ensures spare { λ r. ⌜ spare r + 1 ≡ spare (now (self .entry)) ⌝ }
@@ -34,7 +34,7 @@ impl Scope {
     }
 
     // The value of a variable, 0 the innermost.
-    pub fn get(&self, index: usize) -> i64
+    pub(crate) fn get(&self, index: usize) -> i64
         requires { ⌜ index < length (in-scope (now self)) ⌝ }
         ensures { λ r. ⌜ r ≡ getD (in-scope (now (self .entry))) index (pos 0) ⌝ }
     {

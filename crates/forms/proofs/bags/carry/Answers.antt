@@ -1,13 +1,11 @@
-use mathlib.Core.Path.{_∙_, refl, sym}
+use mathlib.Core.Path.{_∙_, sym}
 use native.Mathlib.Omega.{arith}
 use Rattle.forms.specs.Leaves.{carried}
 use Rattle.forms.specs.Route.{steps-of}
 use Rattle.forms.proofs.Padding.{unseen}
 use Rattle.forms.proofs.Routes.{ahead, arrived}
+use Rattle.forms.proofs.Spreading.{spread}
 use Rattle.forms.proofs.bags.carry.Needs as need
-
-pub loop-i-holds : need.loop-i-holds
-loop-i-holds c = λ way l k. record { way = way; leads = l; calm = k; same = refl }
 
 pub pass-requires : need.pass-requires
 pass-requires c κs =
@@ -20,7 +18,8 @@ returns-in-Break-carried c =
       carried = λ way l k.
           let a = ahead (c .args .entries .now) (steps-of (c .args .route .now)) (c .loop-i .i) (c .step .result) (c .loop-i .carried) (carried way (c .args .row .now)) (omega (arith, c .loop-i-test .taken, c .len-i-end .ensures)) (c .step .ensures) (c .loop-i .inv way l k) in
           c .from-residual .ensures ∙ sym (a .dropped (sym (c .in-Break-carried .ensures tt (a .s) (a .here))));
-      law = unseen;
+      spread = spread;
+      unseen = unseen;
     }
 
 pub loop-i-again : need.loop-i-again
@@ -30,4 +29,4 @@ loop-i-again c = λ way l k.
 
 pub returns : need.returns
 returns c =
-    record { carried = λ way l k. arrived (c .args .entries .now) (steps-of (c .args .route .now)) (c .loop-i .i) (c .loop-i .carried) (carried way (c .args .row .now)) (omega (arith, c .len-i-end .ensures)) (c .loop-i .inv way l k); law = unseen }
+    record { carried = λ way l k. arrived (c .args .entries .now) (steps-of (c .args .route .now)) (c .loop-i .i) (c .loop-i .carried) (carried way (c .args .row .now)) (omega (arith, c .len-i-end .ensures)) (c .loop-i .inv way l k); spread = spread; unseen = unseen }

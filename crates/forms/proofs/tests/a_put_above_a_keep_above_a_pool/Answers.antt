@@ -13,8 +13,8 @@ find-route-requires-2 c κs = record { few = omega arith; is = (_, refl) }
 
 pub carry-requires : need.carry-requires
 unfolding part-at parts parts-from
-carry-requires c κs = (_, c .in-Some .ensures tt .found _ refl .1 .leads, ((((0, refl, omega arith), omega arith), omega arith), (((0, refl, omega arith), omega arith), tt)))
+carry-requires c κs = (_, c .in-Some .ensures tt _ refl .1 .leads, ((((0, refl, omega arith), omega arith), omega arith), (((0, refl, omega arith), omega arith), tt)))
 
 pub carry-requires-2 : need.carry-requires-2
 unfolding part-at parts parts-from
-carry-requires-2 c κs = (_, c .in-Some .ensures tt .found _ refl .1 .leads, ((((0, refl, omega arith), omega arith), omega arith), tt))
+carry-requires-2 c κs = (_, c .in-Some .ensures tt _ refl .1 .leads, ((((0, refl, omega arith), omega arith), omega arith), tt))
