@@ -1,3 +1,4 @@
+pub mod Bags
 pub mod Bounds
 pub mod Steps
 pub mod Terms
