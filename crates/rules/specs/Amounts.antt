@@ -3,10 +3,15 @@ use mathlib.Core.Bool.{Bool, true, _&&_, cond}
 use mathlib.Core.List.{List, [], _∷_, map}
 use Prim.Native.Nat.{ℕ, _+_, _*_}
 use lib.Dec.{leb, eqb}
+use lib.ListN.{getD}
 use Rattle.rules.specs.declared.amounts.Amounts.{Amounts}
 
 abbrev pub amounts : (a b c d : ℕ) → Amounts
 amounts a b c d = record { «source_0» = a; «source_1» = b; «setting_0» = c; «setting_1» = d }
+
+-- the amount at input i
+abbrev pub amount-at : Amounts → ℕ → ℕ
+amount-at a i = getD (a .«source_0» ∷ a .«source_1» ∷ a .«setting_0» ∷ a .«setting_1» ∷ []) i 0
 
 abbrev pub none : Amounts
 none = amounts 0 0 0 0

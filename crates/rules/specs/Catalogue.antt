@@ -1,14 +1,13 @@
 -- When a catalogue is sound at each input.
 use mathlib.Core.Bool.{Bool, cond, _&&_}
-use mathlib.Core.List.{List, []}
+use mathlib.Core.List.{[]}
 use Prim.Native.Nat.{ℕ, _-_}
 use lib.Dec.{leb, ltb}
-use lib.IntN.{ℤ, natAbs, pos}
+use lib.IntN.{natAbs}
 use lib.ListN.{getD}
 use lib.Signed.{leZ}
-use Rattle.refusals.specs.Rules.{first-of, refusal, unless}
-use Rattle.refusals.specs.declared.Refusal.{Refusal}
-use Rattle.sources.specs.Shapes.{column, range, shaped}
+use Rattle.refusals.specs.Rules.{first-of, unless}
+use Rattle.sources.specs.Shapes.{column, shaped}
 use Rattle.sources.specs.declared.shapes.Range.{Range}
 use Rattle.sources.specs.declared.shapes.Shape.{Shape}
 use Rattle.std.specs.declared.option.Option.{Option}
@@ -38,5 +37,6 @@ setting-sound r = leb (natAbs (r .low)) setting-bound && (leb (natAbs (r .high))
 abbrev pub input-sound : Catalogue → ℕ → Bool
 input-sound c i = cond (ltb i 2) (source-sound (source-shape c i)) (setting-sound (setting-range c (i - 2)))
 
-abbrev pub catalogue-rule : Catalogue → Option Refusal
-catalogue-rule c = first-of (λ i. unless (input-sound c i) (refusal 2 i 0)) 0 4
+-- the first input at which the catalogue is faulty
+abbrev pub faulty-input : Catalogue → Option ℕ
+faulty-input c = first-of (λ i. unless (input-sound c i) i) 0 4
