@@ -97,7 +97,7 @@ hulls-sound [] ds p q = tt
 hulls-sound (c ∷ cs) [] p q = tt
 hulls-sound (c ∷ cs) (d ∷ ds) p q = (hull-sound c d (p .0) (q .0), hulls-sound cs ds (p .1) (q .1))
 
-hulls-length : (cs ds : List Range) → length cs ≡ length ds → length (hulls cs ds) ≡ length cs
+pub hulls-length : (cs ds : List Range) → length cs ≡ length ds → length (hulls cs ds) ≡ length cs
 hulls-length [] ds e = refl
 hulls-length (c ∷ cs) [] e = sym e
 hulls-length (c ∷ cs) (d ∷ ds) e = ap suc (hulls-length cs ds (omega arith))
@@ -121,13 +121,13 @@ hull-holds-right a b z e =
     (sym (true-is-le low z (omega (arith, ints, clamps, le-true (b .low) z (p .0)))))
     (sym (true-is-le z high (omega (arith, ints, clamps, le-true z (b .high) (p .1)))))
 
-fits-left : (cs ds : List Range) (r : Row) → length cs ≡ length ds → Fits cs r → Fits (hulls cs ds) r
+pub fits-left : (cs ds : List Range) (r : Row) → length cs ≡ length ds → Fits cs r → Fits (hulls cs ds) r
 fits-left [] ds r e h = h
 fits-left (c ∷ cs) [] r e h = absurd (omega arith)
 fits-left (c ∷ cs) (d ∷ ds) [] e h = h
 fits-left (c ∷ cs) (d ∷ ds) (z ∷ zs) e h = (hull-holds-left c d z (h .0), fits-left cs ds zs (omega arith) (h .1))
 
-fits-right : (cs ds : List Range) (r : Row) → length cs ≡ length ds → Fits ds r → Fits (hulls cs ds) r
+pub fits-right : (cs ds : List Range) (r : Row) → length cs ≡ length ds → Fits ds r → Fits (hulls cs ds) r
 fits-right [] [] r e h = h
 fits-right [] (d ∷ ds) r e h = absurd (omega arith)
 fits-right (c ∷ cs) [] r e h = absurd (omega arith)

@@ -1,0 +1,5 @@
+pub mod Bags
+pub mod Bounds
+pub mod Numbers
+pub mod Steps
+pub mod Terms
