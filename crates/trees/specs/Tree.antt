@@ -29,3 +29,10 @@ pub data Tree : Kind → Type 0 where
   scale : ℤ → Tree Number → Tree Number
   clip : ℤ → ℤ → Tree Number → Tree Number
   let-in : Tree Number → Tree Number → Tree Number
+
+-- a tree of any kind
+abbrev pub AnyTree : Type 0
+AnyTree = (k : Kind) × Tree k
+
+abbrev pub any : {k : Kind} → Tree k → AnyTree
+any {k} t = (k, t)
