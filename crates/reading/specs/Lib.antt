@@ -1,0 +1,6 @@
+pub mod Decide
+pub mod Faults
+pub mod Frame
+pub mod Progress
+pub mod Stack
+pub mod Text
