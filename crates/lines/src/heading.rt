@@ -3,7 +3,7 @@ ghost use mathlib.Core.Path.{_≡_};
 ghost use Prim.Native.Nat.{_+_, _<_, _^_};
 ghost use lib.ListN.{length};
 ghost use Rattle.lines.specs.Heading.{first-piece, heading-read, numbers-read, pieces-in, plain};
-ghost use Rattle.lines.specs.Line.{line-read, token-heading};
+ghost use Rattle.lines.specs.Line.{Tells, line-read, token-heading};
 ghost use Rattle.lines.specs.Shown.{shown-line, shown-piece, shown-token, spelling};
 ghost use Rattle.lines.specs.Split.{fields, run};
 use crate::fault::LineFault;
@@ -23,6 +23,13 @@ pub struct Heading {
 
 // The first line of the text, which is line `line`, and the text behind it. The cost is the length of the line.
 pub fn read_line<'a>(text: &'a [u8], line: usize) -> Result<(Token<Heading>, &'a [u8]), LineFault>
+    ensures value { λ r. ⌜ shown-line r ≡ line-read line (now (text .entry)) ⌝ }
+    ensures exactly { λ r. ⌜ Tells (now (text .entry)) (shown-line r) ⌝ }
+{
+    first_line(text, line)
+}
+
+fn first_line<'a>(text: &'a [u8], line: usize) -> Result<(Token<Heading>, &'a [u8]), LineFault>
     ensures { λ r. ⌜ shown-line r ≡ line-read line (now (text .entry)) ⌝ }
 {
     let (token, rest) = next_token(text, line)?;
