@@ -144,7 +144,7 @@ form-read n w ns e b end =
     (sym (take-at word tail (length word) refl)) (sym (drop-at word tail (length word) refl)) (word-some w) (run-spaced ns e b end) (sym (take-at (spaced ns) e (length (spaced ns)) refl)) (sym (drop-at (spaced ns) e (length (spaced ns)) refl))
 
 -- a heading from the numbers of its word
-abbrev heading-of : Word → List ℤ → Heading
+abbrev pub heading-of : Word → List ℤ → Heading
 heading-of w ns = record { word = w; first = getD ns 0 (pos 0); second = getD ns 1 (pos 0) }
 
 values-read : (ns : List ℤ) → length ns ≤ 2 → Bounded ns → numbers-read (map signed ns) ≡ Some (getD ns 0 (pos 0), getD ns 1 (pos 0))

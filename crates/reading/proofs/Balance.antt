@@ -20,7 +20,7 @@ use Rattle.reading.specs.Frame.{with-begun, with-part, entry-of, fresh}
 use Rattle.reading.specs.Progress.{State, Balanced, innermost, after-line, close-innermost, step}
 use Rattle.reading.specs.Stack.{first-of}
 
-length-innermost : (f : Frame → Frame) (fs : List Frame) → length (innermost f fs) ≡ length fs
+pub length-innermost : (f : Frame → Frame) (fs : List Frame) → length (innermost f fs) ≡ length fs
 length-innermost f [] = refl
 length-innermost f (x ∷ xs) = refl
 

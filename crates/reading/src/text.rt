@@ -2,6 +2,7 @@
 ghost use mathlib.Core.List.{[]};
 ghost use mathlib.Core.Path.{_≡_};
 ghost use Rattle.forms.specs.Held.{held};
+ghost use Rattle.reading.specs.Law.{Reads-trees};
 ghost use Rattle.reading.specs.Text.{Fills, entries-of, kinds-read, replied, text-read};
 use crate::fault::FormFault;
 use crate::fault::FormFaultFromLine;
@@ -11,6 +12,14 @@ use lines::heading::read_line;
 
 // Reads the text into the table, which has an entry for each form, in closing order. A refused text leaves the table empty. The cost is linear in the length of the text.
 pub fn read(text: &[u8], table: &mut Table) -> Result<(), FormFault>
+    ensures reply { λ r. ⌜ r ≡ replied (text-read (now (text .entry))) ⌝ }
+    ensures table { λ _. ⌜ held (now (table .exit)) ≡ entries-of (text-read (now (text .entry))) ⌝ }
+    ensures law { λ r. ⌜ Reads-trees (now (text .entry)) r (held (now (table .exit))) ⌝ }
+{
+    read_anew(text, table)
+}
+
+fn read_anew(text: &[u8], table: &mut Table) -> Result<(), FormFault>
     ensures reply { λ r. ⌜ r ≡ replied (text-read (now (text .entry))) ⌝ }
     ensures table { λ _. ⌜ held (now (table .exit)) ≡ entries-of (text-read (now (text .entry))) ⌝ }
 {
