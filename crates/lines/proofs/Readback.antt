@@ -1,5 +1,5 @@
 -- A line in its written form is read.
-use mathlib.Core.Bool.{Bool, true, false, cond, not, _||_}
+use mathlib.Core.Bool.{Bool, true, false, not, _||_}
 use mathlib.Core.List.{List, [], _∷_, _++_, map, append-nil}
 use mathlib.Core.Path.{_≡_, refl, sym, ap, ap₂, subst, _∙_}
 use native.Mathlib.Numerals.{add-one}
@@ -7,22 +7,22 @@ use native.Mathlib.Omega.{arith}
 use Prim.Native.Nat.{ℕ, suc, _+_, _≤_, _<_, _^_, _%_}
 use lib.Dec.{eqb, leb}
 use lib.IntN.{ℤ, pos, negsuc, natAbs}
-use lib.ListN.{length, getD, take, drop}
+use lib.ListN.{length, getD, take}
 use Rattle.std.proofs.shelf.Decimals.{decimal-by-steps, decimal-some}
 use Rattle.std.proofs.shelf.Elements.{all-append, all-push, all-weaker}
-use Rattle.std.proofs.shelf.Lists.{take-at, drop-at, length-append, length-map}
+use Rattle.std.proofs.shelf.Lists.{take-at, drop-at, length-map}
 use Rattle.std.proofs.shelf.Tests.{cond-true, cond-false, eq-eqb, ne-eqb, le-leb, leb-true, and-from, or-from}
 use Rattle.std.specs.declared.option.Option.{Option}
 use Rattle.std.specs.declared.option.Option.the-variants.{Some, None}
 use Rattle.std.specs.declared.result.Result.{Result}
 use Rattle.std.specs.declared.result.Result.the-variants.{Ok, Err}
-use Rattle.std.specs.shelf.Lists.{All, joined}
+use Rattle.std.specs.shelf.Lists.{All}
 use Rattle.std.specs.Text.{In}
 use Rattle.std.specs.Written.{signed, decimal}
 use Rattle.trees.proofs.Spelling.{each-word, found, letters}
 use Rattle.trees.specs.declared.words.Word.{Word}
 use Rattle.trees.specs.Size.{literal-bound}
-use Rattle.trees.specs.Words.{entry, word-spelled}
+use Rattle.trees.specs.Words.{entry}
 use Rattle.trees.specs.Written.{Line, line-bytes}
 use Rattle.trees.specs.Written.Line.{opening, leaf, closing}
 use Rattle.lines.proofs.Spelled.{spells}
@@ -35,8 +35,7 @@ use Rattle.lines.specs.declared.token.Token.{Token}
 use Rattle.lines.specs.declared.token.Token.the-variants.{Opening, Leaf, Closing}
 use Rattle.lines.specs.Heading.{pieces-in, paired, numbers-read, numbered, with-numbers, heading-read}
 use Rattle.lines.specs.Line.{after, token-heading, line-read, numbers-in, as-line, Counted, Proper, told-line, Tells}
-use Rattle.lines.specs.Number.{number-spelled}
-use Rattle.lines.specs.Split.{run, letter, inner, onto, fields, filled, filled-run, one-more, pieces-run, Spelling, Found, ended, form-token, token-at, or-no-line, token-read}
+use Rattle.lines.specs.Split.{run, letter, inner, onto, fields, filled, one-more, pieces-run, Found, ended, form-token, or-no-line}
 
 -- a run ends where the test fails
 abbrev Fails : (ℕ → Bool) → List ℕ → Type 0

@@ -6,11 +6,11 @@ use native.Mathlib.Omega.{arith}
 use borrow.Author.Needs.{needs}
 use Prim.Native.Nat.{ℕ, zero, suc, _+_, _*_, _-_, _≤_, _<_, _^_}
 use lib.Dec.{eqb, leb}
-use lib.IntN.{ℤ, pos, negsuc, natAbs, negℤ}
+use lib.IntN.{ℤ, pos, negsuc, natAbs}
 use lib.ListN.{length, getD}
 use Rattle.std.proofs.shelf.Decimals.{decimal-value, digits-decimal, value-decimal, decimal-some, decimal-digit, first-decimal}
 use Rattle.std.proofs.shelf.Numerals.{Numerals, numerals-by-fold}
-use Rattle.std.proofs.shelf.Tests.{and-parts, leb-true, leb-false, le-leb, lt-leb, ne-eqb, eqb-true, cond-true, cond-false}
+use Rattle.std.proofs.shelf.Tests.{and-parts, leb-true, le-leb, ne-eqb, eqb-true, cond-true, cond-false}
 use Rattle.std.specs.declared.option.Option.{Option}
 use Rattle.std.specs.declared.option.Option.the-variants.{Some, None}
 use Rattle.std.specs.shelf.Text.{allDigits}

@@ -1,7 +1,7 @@
 -- A line by its first bytes.
 use mathlib.Core.Bool.{false}
 use mathlib.Core.List.{List, [], _∷_}
-use mathlib.Core.Path.{_≡_, refl, sym, ap, ap₂, subst, _∙_}
+use mathlib.Core.Path.{_≡_, refl, sym, ap, ap₂, _∙_}
 use native.Mathlib.Omega.{arith}
 use Prim.Native.Nat.{ℕ, _+_, _-_, _<_, _≤_}
 use lib.ListN.{length, getD, take, drop}
@@ -12,7 +12,7 @@ use Rattle.std.specs.declared.option.Option.the-variants.{Some, None}
 use Rattle.lines.proofs.Fields.{run-le}
 use Rattle.lines.specs.declared.token.Token.the-variants.{Opening, Leaf, Closing}
 use Rattle.lines.specs.Number.{number-spelled, negative, numeral}
-use Rattle.lines.specs.Split.{run, letter, inner, fields, filled, filled-run, one-more, pieces-run, Spelling, Found, ended, with-pieces, with-word, form-token, token-at}
+use Rattle.lines.specs.Split.{run, letter, inner, fields, filled, filled-run, one-more, pieces-run, Spelling, ended, with-pieces, with-word, form-token, token-at}
 
 -- what a pattern leaves behind the first byte, and behind the first two
 abbrev pub rest : List ℕ → List ℕ

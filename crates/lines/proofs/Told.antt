@@ -5,7 +5,7 @@ use mathlib.Core.Logic.{_⊎_, inl, inr}
 use mathlib.Core.Path.{_≡_, refl, sym, ap, ap₂, subst, _∙_}
 use native.Mathlib.Numerals.{add-one}
 use native.Mathlib.Omega.{arith}
-use Prim.Native.Nat.{ℕ, suc, _+_, _≤_}
+use Prim.Native.Nat.{ℕ, _+_, _≤_}
 use lib.Chars.{codes}
 use lib.Dec.{eqb, leb}
 use lib.IntN.{ℤ, pos, natAbs}
@@ -25,7 +25,6 @@ use Rattle.trees.specs.declared.words.Word.{Word}
 use Rattle.trees.specs.Size.{literal-bound}
 use Rattle.trees.specs.Words.{entry, word-spelled}
 use Rattle.trees.specs.Written.{line-bytes}
-use Rattle.trees.specs.Written.Line.{opening, leaf, closing}
 use Rattle.lines.proofs.Spelled.{spells}
 use Rattle.lines.specs.declared.fault.LineFault.{LineFault}
 use Rattle.lines.specs.declared.fault.LineFault.the-variants.{NotAHeading}

@@ -37,7 +37,7 @@ fn first_line<'a>(text: &'a [u8], line: usize) -> Result<(Token<Heading>, &'a [u
 }
 
 // A token with its word looked up and its pieces read as numbers.
-pub fn read_token(token: Token<Spelled>) -> Result<Token<Heading>, LineFault>
+fn read_token(token: Token<Spelled>) -> Result<Token<Heading>, LineFault>
     ensures { λ r. ⌜ r ≡ token-heading (shown-token (token .entry)) ⌝ }
 {
     match token {

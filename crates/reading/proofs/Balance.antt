@@ -1,19 +1,17 @@
 -- Each form that is begun stays open or goes into the table.
-use mathlib.Core.Bool.{Bool, true, false}
+use mathlib.Core.Bool.{Bool}
 use mathlib.Core.List.{List, [], _∷_}
-use mathlib.Core.Path.{_≡_, refl, sym, ap, subst, _∙_}
+use mathlib.Core.Path.{_≡_, refl, ap, subst}
 use native.Mathlib.Omega.{arith}
 use Prim.Native.Nat.{ℕ}
 use lib.ListN.{length}
 use Rattle.std.proofs.shelf.Lists.{length-push}
-use Rattle.std.specs.declared.result.Result.{Result}
 use Rattle.std.specs.declared.result.Result.the-variants.{Ok, Err}
 use Rattle.lines.specs.declared.heading.Heading.{Heading}
 use Rattle.lines.specs.declared.token.Token.{Token}
 use Rattle.lines.specs.declared.token.Token.the-variants.{Opening, Leaf, Closing}
 use Rattle.lines.specs.Line.{after}
 use Rattle.reading.proofs.Places.{Placed, Admitted, admitted, room-below}
-use Rattle.reading.specs.declared.fault.FormFault.{FormFault}
 use Rattle.reading.specs.declared.frame.Frame.{Frame}
 use Rattle.reading.specs.Decide.{placed}
 use Rattle.reading.specs.Frame.{with-begun, with-part, entry-of, fresh}

@@ -3,31 +3,30 @@ use mathlib.Core.Bool.{Bool, true, false, cond, not, _&&_}
 use mathlib.Core.List.{List, [], _∷_, _++_, map, foldr, append-assoc, append-nil}
 use mathlib.Core.Path.{_≡_, refl, sym, ap, ap₂, subst, _∙_}
 use native.Mathlib.Omega.{arith}
-use Prim.Native.Nat.{ℕ, suc, pred, max, _+_, _≤_, _<_}
-use lib.Dec.{eqb, ltb}
+use Prim.Native.Nat.{ℕ, suc, max, _+_, _≤_, _<_}
+use lib.Dec.{ltb}
 use lib.IntN.{ℤ}
 use lib.ListN.{length}
-use Rattle.std.proofs.shelf.Lists.{length-push, length-append, length-map}
+use Rattle.std.proofs.shelf.Lists.{length-push}
 use Rattle.std.proofs.shelf.Sums.{sumBy-cons}
-use Rattle.std.proofs.shelf.Tests.{and-from, and-right, eq-eqb, lt-ltb, le-ltb, cond-true, cond-false, not-from-false, true≢false, false≢true}
+use Rattle.std.proofs.shelf.Tests.{and-from, eq-eqb, lt-ltb, le-ltb, not-from-false, true≢false, false≢true}
 use Rattle.std.specs.declared.option.Option.{Option}
 use Rattle.std.specs.declared.option.Option.the-variants.{Some, None}
 use Rattle.std.specs.declared.result.Result.{Result}
 use Rattle.std.specs.declared.result.Result.the-variants.{Ok, Err}
 use Rattle.std.specs.Options.{isSome}
-use Rattle.std.specs.shelf.Lists.{All, joined, sum}
+use Rattle.std.specs.shelf.Lists.{All, sum}
 use Rattle.std.specs.shelf.Maps as maps
 use Rattle.refusals.specs.Rules.{or-else, unless}
 use Rattle.trees.proofs.Induction.{make, folds, Made, induct}
 use Rattle.trees.specs.declared.Kind.{Kind}
-use Rattle.trees.specs.declared.Kind.the-variants.{Term, Condition, Bag, Number}
 use Rattle.trees.specs.declared.words.Word.{Word}
 use Rattle.trees.specs.Size.{form-size, size, form-depth, depth, max-depth, max-forms}
 use Rattle.trees.specs.Tree.{Tree, AnyTree, any}
 use Rattle.trees.specs.Words.{entry}
 use Rattle.trees.specs.Written.{Line, form-lines, lines}
-use Rattle.trees.specs.Written.Line.{opening, leaf, closing}
-use Rattle.lines.proofs.Readback.{heading-of, token-of}
+use Rattle.trees.specs.Written.Line.{leaf, closing}
+use Rattle.lines.proofs.Readback.{heading-of}
 use Rattle.lines.specs.declared.heading.Heading.{Heading}
 use Rattle.lines.specs.declared.token.Token.{Token}
 use Rattle.lines.specs.declared.token.Token.the-variants.{Opening, Leaf, Closing}
@@ -40,8 +39,8 @@ use Rattle.reading.specs.declared.fault.FormFault.{FormFault}
 use Rattle.reading.specs.declared.fault.FormFault.the-variants.{Misplaced, TooLarge}
 use Rattle.reading.specs.declared.frame.Frame.{Frame}
 use Rattle.reading.specs.Decide.{wanted, has-parts, some-kind, fits, leaves-open, has-room, line-of}
-use Rattle.reading.specs.Frame.{fresh, next-kind, with-begun, with-part}
-use Rattle.reading.specs.Progress.{State, rank, is-wanted, innermost, begun-form, after-line, close-innermost, step}
+use Rattle.reading.specs.Frame.{fresh, with-begun, with-part}
+use Rattle.reading.specs.Progress.{State, rank, is-wanted, innermost, after-line, close-innermost, step}
 use Rattle.reading.specs.Stack.{first-of}
 
 -- a line that may stand is read

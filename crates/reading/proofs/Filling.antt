@@ -1,6 +1,6 @@
 -- The lines of a text, one turn after the other.
 use mathlib.Core.Bool.{Bool}
-use mathlib.Core.List.{List, [], _∷_}
+use mathlib.Core.List.{List}
 use mathlib.Core.Path.{_≡_, refl, sym, ap, subst, _∙_}
 use Prim.Native.Nat.{ℕ, _+_, _<_}
 use lib.Dec.{eqb}
@@ -18,7 +18,7 @@ use Rattle.reading.proofs.Cut.{turn, no-lines}
 use Rattle.reading.proofs.Places.{Placed}
 use Rattle.reading.specs.declared.fault.FormFault.{FormFault}
 use Rattle.reading.specs.Progress.{State, step}
-use Rattle.reading.specs.Text.{lines-of, none, lines-read, beginning, kinds-read, text-read, Fills}
+use Rattle.reading.specs.Text.{lines-of, lines-read, beginning, kinds-read, text-read, Fills}
 
 module _ (s : State) (n : ℕ) (bs : List ℕ) (t : Token Heading) (more : List ℕ) (last : Bool) (h : 0 < length bs) (reads : line-read n bs ≡ Ok (t, more)) (l : last ≡ eqb (length more) 0) where
   stepped : (r : Result State FormFault) → step s last t ≡ r → lines-read s n (lines-of bs) ≡ after r (λ s′. lines-read s′ (n + 1) (lines-of more))

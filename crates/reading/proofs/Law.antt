@@ -3,41 +3,39 @@ use mathlib.Core.List.{List, [], _∷_, _++_, map, append-nil}
 use mathlib.Core.Logic.{_⊎_, inl, inr}
 use mathlib.Core.Path.{_≡_, refl, sym, ap, subst, _∙_}
 use native.Mathlib.Omega.{arith}
-use Prim.Native.Nat.{ℕ, _+_, _-_, _≤_, _<_, _^_}
+use Prim.Native.Nat.{ℕ, _-_, _≤_, _<_, _^_}
 use lib.IntN.{ℤ, natAbs}
 use lib.ListN.{length}
 use Rattle.std.proofs.shelf.Elements.{all-append, all-weaker}
-use Rattle.std.proofs.shelf.Lists.{nil-from-length}
 use Rattle.std.specs.declared.option.Option.{Option}
 use Rattle.std.specs.declared.option.Option.the-variants.{Some, None}
 use Rattle.std.specs.declared.result.Result.{Result}
 use Rattle.std.specs.declared.result.Result.the-variants.{Ok, Err}
 use Rattle.std.specs.shelf.Lists.{All, joined}
-use Rattle.trees.proofs.Induction.{make, folds, Made, induct}
+use Rattle.trees.proofs.Induction.{folds, induct}
 use Rattle.trees.proofs.Limits.{told-by-lines}
 use Rattle.trees.proofs.Unique.{written-once}
 use Rattle.trees.specs.declared.Kind.{Kind}
 use Rattle.trees.specs.declared.Kind.the-variants.{Number}
 use Rattle.trees.specs.declared.words.Word.{Word}
-use Rattle.trees.specs.Size.{form-size, size, depth, numbers, literal-bound, Within-limits}
+use Rattle.trees.specs.Size.{form-size, size, numbers, literal-bound, Within-limits}
 use Rattle.trees.specs.Tree.{Tree, AnyTree, any}
 use Rattle.trees.specs.Words.{entry}
 use Rattle.trees.specs.Written.{Line, form-lines, lines, line-numbers, line-bytes, written, forms-in, deepest}
 use Rattle.trees.specs.Written.Line.{opening, leaf, closing}
 use Rattle.forms.specs.declared.form.Entry.{Entry}
-use Rattle.forms.specs.Table.{parts, part-at}
-use Rattle.forms.specs.Table.Part.{a-number}
+use Rattle.forms.specs.Table.{part-at}
 use Rattle.lines.specs.declared.heading.Heading.{Heading}
 use Rattle.lines.specs.declared.token.Token.{Token}
 use Rattle.lines.specs.Line.{after, as-line, Proper}
 use Rattle.reading.proofs.Complete.{goes}
-use Rattle.reading.proofs.Run.{Parsed, parse, unparse, tokens-read, tokens-of, stand, shallow, counts, balanced, all-shut}
+use Rattle.reading.proofs.Run.{parse, unparse, tokens-read, tokens-of, stand, shallow, counts, balanced, all-shut}
 use Rattle.reading.proofs.Sound.{Spelt, Whole, At, all-lines}
 use Rattle.reading.proofs.Typed.{part-of}
 use Rattle.reading.specs.declared.fault.FormFault.{FormFault}
 use Rattle.reading.specs.declared.frame.Frame.{Frame}
 use Rattle.reading.specs.Law.{Holds, Reads-trees}
-use Rattle.reading.specs.Progress.{State, Balanced}
+use Rattle.reading.specs.Progress.{State}
 use Rattle.reading.specs.Text.{lines-of, lines-read, beginning, kinds-read, text-read, replied, entries-of}
 
 -- the lines of a tree are proper

@@ -1,23 +1,19 @@
 -- A text as a list of tokens: what is read of them, and how they stand for the bytes.
 use mathlib.Core.Bool.{Bool, true, false}
 use mathlib.Core.List.{List, [], _∷_, _++_, map, append-assoc, append-nil}
-use mathlib.Core.Logic.{_⊎_, inl, inr}
-use mathlib.Core.Path.{_≡_, refl, sym, ap, ap₂, subst, _∙_}
+use mathlib.Core.Path.{_≡_, refl, sym, ap, subst, _∙_}
 use native.Mathlib.Omega.{arith}
-use Prim.Native.Nat.{ℕ, zero, suc, pred, max, _+_, _≤_, _<_}
-use lib.Dec.{eqb, ltb}
+use Prim.Native.Nat.{ℕ, zero, suc, pred, _+_, _≤_, _<_}
 use lib.ListN.{length}
-use Rattle.std.proofs.shelf.Lists.{length-append}
 use Rattle.std.proofs.shelf.Tests.{ltb-false, true≢false, ne-eqb}
-use Rattle.std.specs.declared.option.Option.{Option}
-use Rattle.std.specs.declared.option.Option.the-variants.{Some, None}
+use Rattle.std.specs.declared.option.Option.the-variants.{None}
 use Rattle.std.specs.declared.result.Result.{Result}
 use Rattle.std.specs.declared.result.Result.the-variants.{Ok, Err}
 use Rattle.std.specs.shelf.Lists.{All, joined}
 use Rattle.trees.specs.Size.{max-depth}
 use Rattle.trees.specs.Written.{Line, line-bytes, forms-in, deepest}
 use Rattle.trees.specs.Written.Line.{opening, leaf, closing}
-use Rattle.lines.proofs.Readback.{token-of, token-back, read-back}
+use Rattle.lines.proofs.Readback.{token-of, read-back}
 use Rattle.lines.proofs.Told.{written-by}
 use Rattle.lines.specs.declared.fault.LineFault.{LineFault}
 use Rattle.lines.specs.declared.heading.Heading.{Heading}
@@ -29,7 +25,6 @@ use Rattle.reading.proofs.Cut.{turn, turn-fault, no-lines}
 use Rattle.reading.proofs.Places.{Admitted, room-below}
 use Rattle.reading.proofs.Sound.{At, step-at, right-before}
 use Rattle.reading.specs.declared.fault.FormFault.{FormFault}
-use Rattle.reading.specs.declared.fault.FormFault.the-variants.{Line as LineOf}
 use Rattle.reading.specs.declared.frame.Frame.{Frame}
 use Rattle.reading.specs.Frame.{with-begun, with-part}
 use Rattle.reading.specs.Progress.{State, Balanced, innermost, after-line, close-innermost, step}

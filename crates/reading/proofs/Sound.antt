@@ -1,11 +1,10 @@
 -- What is read so far: the trees of the forms that are closed stand in the table, and their lines and those that open the others are the lines so far.
-use mathlib.Core.Bool.{Bool, true, false, cond, not, _&&_}
+use mathlib.Core.Bool.{Bool, true, false, cond, not}
 use mathlib.Core.List.{List, [], _∷_, _++_, map, reverse, append-assoc, append-nil}
 use mathlib.Core.Logic.{_⊎_, inl, inr}
 use mathlib.Core.Path.{_≡_, refl, sym, ap, ap₂, subst, _∙_}
 use native.Mathlib.Omega.{arith}
-use Prim.Native.Nat.{ℕ, zero, suc, _+_, _-_, _≤_, _<_}
-use lib.Dec.{eqb}
+use Prim.Native.Nat.{ℕ, _+_, _-_, _<_}
 use lib.ListN.{length}
 use Rattle.std.proofs.shelf.Lists.{getD-append-left, getD-push, length-push, length-append, length-map, map-push, reverse-append, length-reverse}
 use Rattle.std.proofs.shelf.Tests.{and-parts, eq-eqb, ne-eqb, eqb-true, not-true, false≢true, true≢false}
@@ -15,23 +14,23 @@ use Rattle.std.specs.Options.{isSome}
 use Rattle.std.specs.shelf.Lists.{joined}
 use Rattle.std.specs.shelf.Maps as maps
 use Rattle.refusals.specs.Rules.{or-else, unless}
-use Rattle.trees.proofs.Induction.{make, folds, Made}
+use Rattle.trees.proofs.Induction.{make, folds}
 use Rattle.trees.specs.declared.Kind.{Kind}
 use Rattle.trees.specs.declared.Kind.the-variants.{Term, Condition, Bag, Number}
 use Rattle.trees.specs.declared.words.Word.{Word}
 use Rattle.trees.specs.Tree.{Tree, AnyTree, any}
 use Rattle.trees.specs.Words.{entry}
 use Rattle.trees.specs.Written.{Line, form-lines, lines}
-use Rattle.trees.specs.Written.Line.{opening, leaf, closing}
+use Rattle.trees.specs.Written.Line.{opening, closing}
 use Rattle.forms.specs.declared.form.Entry.{Entry}
-use Rattle.forms.specs.Table.{Part, nth, build, parts-from, parts, part-at}
+use Rattle.forms.specs.Table.{Part, nth, build, parts-from, parts}
 use Rattle.forms.specs.Table.Part.{bad}
 use Rattle.lines.specs.declared.heading.Heading.{Heading}
 use Rattle.lines.specs.declared.token.Token.{Token}
 use Rattle.lines.specs.declared.token.Token.the-variants.{Opening, Leaf, Closing}
 use Rattle.lines.specs.Line.{numbers-in, as-line, Counted, Proper}
 use Rattle.reading.proofs.Places.{Admitted}
-use Rattle.reading.proofs.Typed.{part-of, kind-of, of-kind, Placed, own-numbers, made, built}
+use Rattle.reading.proofs.Typed.{part-of, kind-of, of-kind, Placed, made, built}
 use Rattle.reading.proofs.Wanted.{three-parts}
 use Rattle.reading.specs.declared.frame.Frame.{Frame}
 use Rattle.reading.specs.Decide.{wanted, has-parts, some-kind, fits}

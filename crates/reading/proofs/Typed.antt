@@ -4,16 +4,14 @@ use mathlib.Core.Path.{_≡_, refl, sym, ap, ap₂, subst, _∙_}
 use native.Mathlib.Omega.{arith}
 use Prim.Native.Nat.{ℕ}
 use lib.IntN.{ℤ}
-use lib.ListN.{length, take}
-use Rattle.std.specs.declared.option.Option.{Option}
-use Rattle.std.specs.declared.option.Option.the-variants.{Some, None}
+use lib.ListN.{take}
 use Rattle.trees.proofs.Induction.{make, Made}
 use Rattle.trees.specs.declared.Kind.{Kind}
 use Rattle.trees.specs.declared.Kind.the-variants.{Term, Condition, Bag, Number}
 use Rattle.trees.specs.declared.words.Word.{Word}
 use Rattle.trees.specs.declared.words.Word.the-variants.{Keep, Put, Pool, Col, Lit, Plus, Times, Pick, Less, Equal, Either, Not, Num, Setting, Var, Count, Sum, Add, Sub, Least, Most, Scale, Clip, Let}
 use Rattle.trees.specs.Tree.{Tree, AnyTree, any}
-use Rattle.trees.specs.Tree.Tree.{bag, keep, put, pool, col, lit, plus, times, pick, less, equal, either, not, num, setting, var, count, sum, add, sub, least, most, scale, clip, let-in}
+use Rattle.trees.specs.Tree.Tree.{keep, put, pool, plus, times, pick, less, equal, either, not, count, sum, add, sub, least, most, scale, clip, let-in}
 use Rattle.trees.specs.Words.{entry}
 use Rattle.forms.specs.Table.{Part, as-term, as-condition, as-bag, as-number, of-one, of-two, of-three, nth, build}
 use Rattle.forms.specs.Table.Part.{a-term, a-condition, a-bag, a-number}

@@ -2,7 +2,6 @@
 use Prim.Native.Nat.{ℕ, _+_}
 use lib.IntN.{ℤ}
 use Rattle.std.specs.declared.option.Option.{Option}
-use Rattle.std.specs.declared.option.Option.the-variants.{Some, None}
 use Rattle.std.specs.shelf.Maps.{nth}
 use Rattle.trees.specs.declared.Kind.{Kind}
 use Rattle.trees.specs.declared.words.Word.{Word}

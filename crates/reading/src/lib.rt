@@ -1,7 +1,7 @@
 // A query's text is read into a table of forms, or refused with a number and a line.
-pub mod decide;
+mod decide;
 pub mod fault;
-pub mod frame;
-pub mod progress;
-pub mod stack;
+mod frame;
+mod progress;
+mod stack;
 pub mod text;

@@ -1,5 +1,5 @@
 // Where a reader stands between two lines, and what a line changes there.
-ghost use Prim.Native.Nat.{_<_, _+_, _≤_};
+ghost use Prim.Native.Nat.{_<_, _+_};
 ghost use lib.ListN.{length};
 ghost use mathlib.Core.Bool.{true};
 ghost use mathlib.Core.List.{[], _++_, _∷_};

@@ -1,7 +1,6 @@
-use mathlib.Core.Path.{_≡_, sym, ap, _∙_}
 use native.Mathlib.Omega.{arith}
 use Prim.Native.Nat.{_<_}
-use lib.ListN.{length, getD}
+use lib.ListN.{length}
 use Rattle.lines.proofs.Pieces.{fields-space, fields-other, fields-none}
 use Rattle.lines.proofs.heading.count_fields.Needs as need
 use Rattle.lines.proofs.heading.count_fields.Needs.{then-byte-eq32, else-byte-eq32}

@@ -1,5 +1,5 @@
 use mathlib.Core.Path.{sym, ap, _∙_}
-use Rattle.std.specs.declared.option.Option.the-variants.{Some, None}
+use Rattle.std.specs.declared.option.Option.the-variants.{None}
 use Rattle.lines.proofs.Pieces.{pieces-more, no-number, one-kept, two-read, two-kept}
 use Rattle.lines.proofs.heading.numbers.Needs as need
 use Rattle.lines.specs.Heading.{numbers-read, pieces-in}

@@ -1,5 +1,4 @@
 use mathlib.Core.Path.{sym, _∙_}
-use native.Mathlib.Omega.{arith}
 use Rattle.lines.proofs.Pieces.{miscounted}
 use Rattle.lines.proofs.heading.read_heading.Needs as need
 use Rattle.lines.specs.Heading.{pieces-in}

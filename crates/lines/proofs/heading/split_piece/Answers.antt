@@ -1,17 +1,12 @@
-use mathlib.Core.List.{List}
-use mathlib.Core.Path.{_≡_, sym, ap, _∙_}
+use mathlib.Core.Path.{sym, ap, _∙_}
 use native.Mathlib.Omega.{arith}
 use borrow.Author.Needs.{needs}
-use Prim.Native.Nat.{ℕ}
-use lib.ListN.{length, take, drop}
 use Rattle.std.proofs.shelf.Parts.{first-rest}
-use Rattle.std.specs.declared.option.Option.the-variants.{Some}
 use Rattle.lines.proofs.Fields.{run-le}
 use Rattle.lines.proofs.Pieces.{piece-is}
 use Rattle.lines.proofs.Splits.{rest}
 use Rattle.lines.proofs.heading.split_piece.Needs as need
 use Rattle.lines.specs.Heading.{first-piece, plain}
-use Rattle.lines.specs.Split.{run}
 
 pub split-at-requires : need.split-at-requires
 split-at-requires c κs = omega (arith, c .plain-len .ensures, run-le plain (rest (c .args .pieces .now)))

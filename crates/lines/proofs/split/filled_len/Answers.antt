@@ -1,5 +1,5 @@
 use mathlib.Core.Path.{_≡_, sym, ap, _∙_}
-use mathlib.Core.Bool.{false, true, cond, _&&_}
+use mathlib.Core.Bool.{cond}
 use native.Mathlib.Omega.{arith}
 use borrow.Author.Needs.{needs}
 use Prim.Native.Nat.{ℕ, _<_}
@@ -10,7 +10,6 @@ use Rattle.std.specs.declared.option.Option.the-variants.{Some, None}
 use Rattle.lines.proofs.Fields.{filled-run-from, from-none, from-stop, from-empty, from-more}
 use Rattle.lines.proofs.split.filled_len.Needs as need
 use Rattle.lines.proofs.split.filled_len.Needs.{else-space·by·then-space·else-blank, else-space·by·else-space}
-use Rattle.lines.specs.Split.{inner}
 
 pub loop-i-holds : need.loop-i-holds
 loop-i-holds c = filled-run-from (c .args .bytes .now)

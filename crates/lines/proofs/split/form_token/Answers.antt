@@ -1,14 +1,12 @@
-use mathlib.Core.List.{List}
-use mathlib.Core.Path.{_≡_, sym, _∙_}
+use mathlib.Core.Path.{sym, _∙_}
 use native.Mathlib.Omega.{arith}
 use borrow.Author.Needs.{needs}
-use Prim.Native.Nat.{ℕ}
 use lib.ListN.{length}
 use Rattle.std.proofs.shelf.Tests.{eqb-false}
 use Rattle.lines.proofs.Fields.{run-le}
 use Rattle.lines.proofs.Splits.{formed, pieces-le, ends-opening, ends-leaf}
 use Rattle.lines.proofs.split.form_token.Needs as need
-use Rattle.lines.specs.Split.{letter, form-token, ended}
+use Rattle.lines.specs.Split.{letter}
 
 pub split-at-requires : need.split-at-requires
 split-at-requires c κs = omega (arith, c .letters .ensures, run-le letter (c .args .text .now))

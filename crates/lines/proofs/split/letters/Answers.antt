@@ -1,9 +1,7 @@
-use mathlib.Core.Path.{_≡_, sym, _∙_}
-use mathlib.Core.Bool.{false, true}
+use mathlib.Core.Path.{sym, _∙_}
 use native.Mathlib.Omega.{arith}
 use Prim.Native.Nat.{_<_}
-use lib.ListN.{length, getD, drop}
-use Rattle.std.proofs.shelf.Lists.{drop-all}
+use lib.ListN.{length}
 use Rattle.lines.proofs.Fields.{run-stop, run-more, run-none}
 use Rattle.lines.proofs.split.letters.Needs as need
 use Rattle.lines.specs.Split.{letter}
