@@ -1,0 +1,10 @@
+pub mod Balance
+pub mod Complete
+pub mod Cut
+pub mod Filling
+pub mod Law
+pub mod Places
+pub mod Run
+pub mod Sound
+pub mod Typed
+pub mod Wanted
