@@ -1,3 +1,4 @@
 pub mod Counting
+pub mod Nesting
 pub mod Queries
 pub mod Spots
