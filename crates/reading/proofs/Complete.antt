@@ -168,10 +168,6 @@ goes-parts (p ∷ ps) all s h before fs n l ls m few deep =
       wrong-now = later .wrong-now ∙ d .wrong-now;
     }
 
-nth-end : (ks : List Kind) → maps.nth ks (length ks) ≡ None
-nth-end [] = refl
-nth-end (k ∷ ks) = nth-end ks
-
 -- the line that closes a form whose parts are all read
 goes-close : (s : State) (h : Heading) (fs : List Frame) (n : ℕ) (rest : List Line) → Among s h (entry (h .word) .parts) [] fs → (rest ≡ [] → length fs ≡ 0) → (s′ : State) × Leads s n (closing ∷ []) rest s′ × (s′ .at .open-forms ≡ innermost (with-part (length (s .entries))) fs) × (s′ .at .forms ≡ s .at .forms) × (s′ .at .wrong ≡ s .at .wrong)
 goes-close s h fs n rest m shut =
