@@ -1,0 +1,3 @@
+pub mod Counts
+pub mod Lost
+pub mod Distances

@@ -1,0 +1,2 @@
+pub mod Distance
+pub mod Laws
