@@ -13,7 +13,7 @@ use Rattle.std.proofs.shelf.Signed.{ints}
 use Rattle.std.proofs.shelf.Sorted.{sumBy-shuffled}
 use Rattle.std.proofs.shelf.Sums.{sumBy-append, sumBy-cons}
 use Rattle.std.proofs.shelf.Tests.{and-from, and-parts, both-ways}
-use Rattle.std.specs.shelf.Lists.{kept-by, sumBy}
+use Rattle.std.specs.shelf.Lists.{All, kept-by, sumBy}
 use Rattle.std.specs.shelf.Sorted.{Shuffled}
 use Rattle.sources.specs.Source.{Row}
 use Rattle.bags.specs.Distance.{different, equal, same, times}
@@ -92,6 +92,10 @@ times-same z x xs e = times-cons z x xs ∙ ap (λ b. cond b 1 0 + times z xs) e
 
 pub times-other : (z x : Row) (xs : List Row) → same z x ≡ false → times z (x ∷ xs) ≡ times z xs
 times-other z x xs e = times-cons z x xs ∙ ap (λ b. cond b 1 0 + times z xs) e ∙ omega arith
+
+pub times-absent : (x : Row) (xs : List Row) → All (λ y. same x y ≡ false) xs → times x xs ≡ 0
+times-absent x [] h = times-none x
+times-absent x (y ∷ ys) h = times-other x y ys (h .0) ∙ times-absent x ys (h .1)
 
 pub times-kept : (p : Row → Bool) (z : Row) (xs : List Row) → times z (kept-by p xs) ≡ cond (p z) (times z xs) 0
 times-kept p z [] = times-none z ∙ go (p z)

@@ -1,3 +1,6 @@
 pub mod Counts
+pub mod Laws
 pub mod Lost
-pub mod Distances
+pub mod Merges
+pub mod Padding
+pub mod Shares

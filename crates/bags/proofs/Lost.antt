@@ -38,7 +38,7 @@ times-lost z (x ∷ xs) ys = go (leb (times x ys) (times x xs)) (same z x) refl 
     go false false d e ih = omega (arith, ih, times-other z x xs e)
 
 -- the sum over the different rows is the same wherever each row stands once
-missing-over : (u xs ys : List Row) → Once u xs → sumBy (λ z. times z xs - times z ys) u ≡ length (lost xs ys)
+pub missing-over : (u xs ys : List Row) → Once u xs → sumBy (λ z. times z xs - times z ys) u ≡ length (lost xs ys)
 missing-over u xs ys once =
     (λ i. sumBy (λ z. (sym (times-lost z xs ys) ∙ sym (mul-one (times z (lost xs ys)))) i) u)
     ∙ weighted (λ _. 1) u (lost xs ys) (λ z h. once z (omega (arith, times-lost z xs ys)))
@@ -48,10 +48,10 @@ once-each : (xs ys : List Row) → Once (different (xs ++ ys)) (xs ++ ys)
 once-each xs ys z h = times-different z (xs ++ ys) ∙ omega (arith, h)
 
 module _ (xs ys : List Row) where
-  first-once : Once (different (xs ++ ys)) xs
+  pub first-once : Once (different (xs ++ ys)) xs
   first-once z h = once-each xs ys z (omega (arith, times-append z xs ys))
 
-  second-once : Once (different (xs ++ ys)) ys
+  pub second-once : Once (different (xs ++ ys)) ys
   second-once z h = once-each xs ys z (omega (arith, times-append z xs ys))
 
   pub missing-is : missing xs ys ≡ length (lost xs ys)

@@ -1,7 +1,7 @@
 -- How far two bags of rows are apart. A bag is a list of rows whose order does not count.
 use mathlib.Core.Bool.{Bool, true, false, not, _&&_}
 use mathlib.Core.List.{List, [], _∷_, _++_}
-use Prim.Native.Nat.{ℕ, _+_, _-_}
+use Prim.Native.Nat.{ℕ, min, _+_, _-_}
 use lib.IntN.{ℤ}
 use lib.Signed.{leZ}
 use Rattle.std.specs.shelf.Lists.{countBy, kept-by, sumBy}
@@ -38,3 +38,7 @@ distance xs ys = sumBy (λ r. gap (times r xs) (times r ys)) (different (xs ++ y
 -- over all different rows, what the first bag has more of each
 unfoldable pub missing : List Row → List Row → ℕ
 missing xs ys = sumBy (λ r. times r xs - times r ys) (different (xs ++ ys))
+
+-- over all different rows, what both bags have of each
+unfoldable pub shared : List Row → List Row → ℕ
+shared xs ys = sumBy (λ r. min (times r xs) (times r ys)) (different (xs ++ ys))

@@ -32,7 +32,7 @@ missing-triangle xs ys zs =
 pub missing-alike : (xs ys us vs : List Row) → ((z : Row) → times z us - times z vs ≤ times z xs - times z ys) → missing us vs ≤ missing xs ys
 missing-alike xs ys us vs h = omega (arith, missing-is xs ys, missing-least (lost xs ys) us vs (λ z. omega (arith, h z, times-lost z xs ys)))
 
-missing-reordered : (xs ys us vs : List Row) → Shuffled xs us → Shuffled ys vs → missing us vs ≡ missing xs ys
+pub missing-reordered : (xs ys us vs : List Row) → Shuffled xs us → Shuffled ys vs → missing us vs ≡ missing xs ys
 missing-reordered xs ys us vs p q =
     let few = missing-alike xs ys us vs (λ z. omega (arith, times-shuffled z xs us p, times-shuffled z ys vs q)) in
     let many = missing-alike us vs xs ys (λ z. omega (arith, times-shuffled z xs us p, times-shuffled z ys vs q)) in
@@ -45,7 +45,7 @@ missing-kept p xs ys = missing-alike xs ys (kept-by p xs) (kept-by p ys) (λ z. 
     go true m n = omega arith
     go false m n = omega arith
 
-missing-mapped : (f : Row → Row) (xs ys : List Row) → missing (map f xs) (map f ys) ≤ missing xs ys
+pub missing-mapped : (f : Row → Row) (xs ys : List Row) → missing (map f xs) (map f ys) ≤ missing xs ys
 missing-mapped f xs ys =
     let l = lost xs ys in
     omega (arith, missing-is xs ys, length-map l f, missing-least (map f l) (map f xs) (map f ys) (λ z. omega (arith, times-map f z xs, times-map f z ys, times-map f z l, sum-lost (λ x. cond (same z (f x)) 1 0) xs ys)))
