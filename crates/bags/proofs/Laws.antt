@@ -1,7 +1,7 @@
 -- The laws of the distance: first of what is missing, in one direction, and then of both directions together.
 use mathlib.Core.Bool.{Bool, true, false, cond}
 use mathlib.Core.List.{List, [], _∷_, _++_, map}
-use mathlib.Core.Path.{_≡_, _∙_, ap, refl, sym}
+use mathlib.Core.Path.{_≡_, _∙_, ap, refl, subst, sym}
 use native.Mathlib.Nat.{mul-le-mul-left, mul-comm, mul-add}
 use native.Mathlib.Omega.{arith}
 use Prim.Native.Nat.{ℕ, suc, _+_, _*_, _-_, _≤_}
@@ -56,6 +56,9 @@ missing-joined xs ys us vs =
     let m = lost us vs in
     omega (arith, missing-is xs ys, missing-is us vs, length-append l m, missing-least (l ++ m) (xs ++ us) (ys ++ vs) (λ z. omega (arith, times-append z l m, times-append z xs us, times-append z ys vs, times-lost z xs ys, times-lost z us vs)))
 
+missing-most : (xs ys : List Row) → missing xs ys ≤ length xs
+missing-most xs ys = missing-least xs xs ys (λ z. omega arith)
+
 -- a sum grows by no more than the greatest value for each row that is missing
 missing-sum : (g : Row → ℕ) (m : ℕ) → ((r : Row) → g r ≤ m) → (xs ys : List Row) → sumBy g xs ≤ sumBy g ys + m * missing xs ys
 missing-sum g m h xs ys = omega (arith, sum-lost g xs ys, sumBy-le g m (lost xs ys) (each (lost xs ys)), ap (λ n. n * m) (missing-is xs ys), mul-comm m (missing xs ys))
@@ -64,25 +67,24 @@ missing-sum g m h xs ys = omega (arith, sum-lost g xs ys, sumBy-le g m (lost xs 
     each [] = tt
     each (r ∷ l) = (h r, each l)
 
+pub missing-steady : Steady missing
+missing-steady = record { itself = missing-itself; triangle = missing-triangle; reordered = missing-reordered; kept = missing-kept; mapped = missing-mapped; joined = missing-joined }
+
 -- ---- both directions
 
-module _ (xs ys us vs : List Row) where
-  alike : missing us vs ≡ missing xs ys → missing vs us ≡ missing ys xs → distance us vs ≡ distance xs ys
-  alike p q = omega (arith, distance-is xs ys, distance-is us vs)
-
-  narrower : missing us vs ≤ missing xs ys → missing vs us ≤ missing ys xs → distance us vs ≤ distance xs ys
-  narrower p q = omega (arith, distance-is xs ys, distance-is us vs)
+both-ways : (d : List Row → List Row → ℕ) → Steady d → Steady (λ xs ys. d xs ys + d ys xs)
+both-ways d s =
+    record {
+      itself = λ xs. omega (arith, s .itself xs);
+      triangle = λ xs ys zs. omega (arith, s .triangle xs ys zs, s .triangle zs ys xs);
+      reordered = λ xs ys us vs p q. omega (arith, s .reordered xs ys us vs p q, s .reordered ys xs vs us q p);
+      kept = λ p xs ys. omega (arith, s .kept p xs ys, s .kept p ys xs);
+      mapped = λ f xs ys. omega (arith, s .mapped f xs ys, s .mapped f ys xs);
+      joined = λ xs ys us vs. omega (arith, s .joined xs ys us vs, s .joined ys xs vs us);
+    }
 
 pub distance-steady : Steady distance
-distance-steady =
-    record {
-      itself = λ xs. omega (arith, distance-is xs xs, missing-itself xs);
-      triangle = λ xs ys zs. omega (arith, distance-is xs zs, distance-is xs ys, distance-is ys zs, missing-triangle xs ys zs, missing-triangle zs ys xs);
-      reordered = λ xs ys us vs p q. alike xs ys us vs (missing-reordered xs ys us vs p q) (missing-reordered ys xs vs us q p);
-      kept = λ p xs ys. narrower xs ys (kept-by p xs) (kept-by p ys) (missing-kept p xs ys) (missing-kept p ys xs);
-      mapped = λ f xs ys. narrower xs ys (map f xs) (map f ys) (missing-mapped f xs ys) (missing-mapped f ys xs);
-      joined = λ xs ys us vs. omega (arith, distance-is (xs ++ us) (ys ++ vs), distance-is xs ys, distance-is us vs, missing-joined xs ys us vs, missing-joined ys xs vs us);
-    }
+distance-steady = subst Steady (λ i xs ys. sym (distance-is xs ys) i) (both-ways missing missing-steady)
 
 -- ---- sums of signed numbers: those above 0 and those below
 
@@ -117,6 +119,7 @@ module _ (f : Row → ℤ) where
 pub distance-bounding : Bounding distance
 distance-bounding =
     record {
+      most = λ xs ys. omega (arith, distance-is xs ys, missing-most xs ys, missing-most ys xs);
       lengths = λ xs ys. omega (arith, distance-is xs ys, missing-sum (λ _. 1) 1 (λ _. omega arith) xs ys, missing-sum (λ _. 1) 1 (λ _. omega arith) ys xs, sumBy-one xs, sumBy-one ys);
       sums = sums-bounded;
     }

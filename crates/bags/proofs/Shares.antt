@@ -10,7 +10,7 @@ use Rattle.std.proofs.shelf.Sorted.{length-shuffled}
 use Rattle.std.specs.shelf.Lists.{All, sumBy}
 use Rattle.std.specs.shelf.Sorted.{Shuffled}
 use Rattle.sources.specs.Source.{Row}
-use Rattle.bags.specs.Distance.{different, distance, missing, same, shared, times}
+use Rattle.bags.specs.Distance.{Pairs, different, missing, same, shared, times}
 use Rattle.bags.proofs.Counts.{Once, same-is, sumBy-one, sumBy-plus, times-none, times-other, times-same, times-cons, same-itself, weighted}
 use Rattle.bags.proofs.Laws.{missing-alike, missing-mapped, missing-reordered}
 use Rattle.bags.proofs.Lost.{distance-is, first-once, missing-is, missing-over, second-once}
@@ -34,8 +34,11 @@ module _ (xs ys : List Row) where
       ∙ parted (λ z. times z ys - times z xs) (λ z. min (times z xs) (times z ys)) (λ z. times z ys) (λ z. omega arith)
       ∙ counted ys (second-once xs ys)
 
-  pub distance-shared : distance xs ys ≡ (length xs - shared xs ys) + (length ys - shared xs ys)
-  distance-shared = omega (arith, distance-is xs ys, first-shared, second-shared)
+pub shared-pairs : (xs ys : List Row) (n : ℕ) → n ≡ shared xs ys → Pairs n xs ys
+shared-pairs xs ys n e =
+    let first = first-shared xs ys in
+    let second = second-shared xs ys in
+    record { of-first = omega arith; of-second = omega arith; left = omega (arith, distance-is xs ys) }
 
 pub shared-flip : (xs ys : List Row) → shared xs ys ≡ shared ys xs
 shared-flip xs ys = omega (arith, first-shared xs ys, second-shared ys xs)

@@ -1,8 +1,10 @@
 -- How far two bags of rows are apart. A bag is a list of rows whose order does not count.
 use mathlib.Core.Bool.{Bool, true, false, not, _&&_}
 use mathlib.Core.List.{List, [], _∷_, _++_}
-use Prim.Native.Nat.{ℕ, min, _+_, _-_}
+use mathlib.Core.Path.{_≡_}
+use Prim.Native.Nat.{ℕ, min, _+_, _-_, _≤_}
 use lib.IntN.{ℤ}
+use lib.ListN.{length}
 use lib.Signed.{leZ}
 use Rattle.std.specs.shelf.Lists.{countBy, kept-by, sumBy}
 use Rattle.sources.specs.Source.{Row}
@@ -42,3 +44,9 @@ missing xs ys = sumBy (λ r. times r xs - times r ys) (different (xs ++ ys))
 -- over all different rows, what both bags have of each
 unfoldable pub shared : List Row → List Row → ℕ
 shared xs ys = sumBy (λ r. min (times r xs) (times r ys)) (different (xs ++ ys))
+
+-- n rows of the one bag pair off with n equal rows of the other, and what is left of both is their distance
+pub record Pairs (n : ℕ) (xs ys : List Row) : Type 0 where
+  pub of-first : n ≤ length xs
+  pub of-second : n ≤ length ys
+  pub left : distance xs ys ≡ (length xs - n) + (length ys - n)

@@ -1,7 +1,7 @@
 // The distance of the rows of two sources, of any kinds.
 ghost use mathlib.Core.Path.{_≡_};
-ghost use Rattle.bags.specs.Distance.{distance, shared};
-ghost use Rattle.bags.specs.Laws.{Bounding, Steady};
+ghost use Rattle.bags.specs.Distance.{distance, Pairs};
+ghost use Rattle.bags.specs.Laws.{Bounding, Steady, TwoSided};
 use crate::merging::shared_rows;
 use crate::plain::fill_sorted;
 use sources::MAX_ROWS;
@@ -16,6 +16,13 @@ pub fn distance<A: Source, B: Source>(first: &A, second: &B) -> usize
     ensures value { λ r. ⌜ r ≡ distance (A·Source .meaning (now (first .entry)) .rows) (B·Source .meaning (now (second .entry)) .rows) ⌝ }
     ensures steady { λ _. ⌜ Steady distance ⌝ }
     ensures bounding { λ _. ⌜ Bounding distance ⌝ }
+    ensures sides { λ _. ⌜ TwoSided ⌝ }
+{
+    rows_apart(first, second)
+}
+
+fn rows_apart<A: Source, B: Source>(first: &A, second: &B) -> usize
+    ensures { λ r. ⌜ r ≡ distance (A·Source .meaning (now (first .entry)) .rows) (B·Source .meaning (now (second .entry)) .rows) ⌝ }
 {
     let common = common_rows(first, second);
     (first.count() - common) + (second.count() - common)
@@ -23,7 +30,7 @@ pub fn distance<A: Source, B: Source>(first: &A, second: &B) -> usize
 
 // How many rows the two sources share.
 fn common_rows<A: Source, B: Source>(first: &A, second: &B) -> usize
-    ensures { λ r. ⌜ r ≡ shared (A·Source .meaning (now (first .entry)) .rows) (B·Source .meaning (now (second .entry)) .rows) ⌝ }
+    ensures { λ r. ⌜ Pairs r (A·Source .meaning (now (first .entry)) .rows) (B·Source .meaning (now (second .entry)) .rows) ⌝ }
 {
     if first.width() != second.width() {
         return 0;
