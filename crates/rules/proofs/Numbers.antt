@@ -53,7 +53,7 @@ place-in f vs n (pos k) e all = all k (index-below n (pos k) e)
 place-in f vs n (negsuc k) e all = absurd (false≢true e)
 
 -- what it tells that a number was settled
-number-settled : (n : ℕ) (ok : Bool) (t x : NumberType) → settled n ok t ≡ Ok x → (ok ≡ true) × (bounded number-bound (t .range) ≡ true) × (t ≡ x)
+pub number-settled : (n : ℕ) (ok : Bool) (t x : NumberType) → settled n ok t ≡ Ok x → (ok ≡ true) × (bounded number-bound (t .range) ≡ true) × (t ≡ x)
 number-settled n ok t x e =
     let s = settle-ok (or-else (scope-rule n ok) (number-rule n t)) t x e in
     let p = or-else-none (scope-rule n ok) (number-rule n t) (s .0) in
