@@ -6,12 +6,11 @@ use native.Mathlib.Nat.{mul-one}
 use native.Mathlib.Omega.{arith}
 use Prim.Native.Nat.{ℕ, min, _+_, _-_, _≤_}
 use lib.ListN.{length, length-map}
-use Rattle.std.proofs.shelf.Sorted.{length-shuffled}
 use Rattle.std.specs.shelf.Lists.{All, sumBy}
-use Rattle.std.specs.shelf.Sorted.{Shuffled}
 use Rattle.sources.specs.Source.{Row}
 use Rattle.bags.specs.Distance.{Pairs, different, missing, same, shared, times}
-use Rattle.bags.proofs.Counts.{Once, same-is, sumBy-one, sumBy-plus, times-cons, times-other, weighted}
+use Rattle.bags.specs.Plain.{SameBag}
+use Rattle.bags.proofs.Counts.{Once, same-is, sum-grows, sumBy-one, sumBy-plus, times-cons, times-other, weighted}
 use Rattle.bags.proofs.Laws.{missing-alike, missing-steady}
 use Rattle.bags.proofs.Lost.{distance-is, first-once, missing-is, missing-over, second-once}
 
@@ -47,8 +46,14 @@ shared-pairs xs ys n e =
 pub shared-flip : (xs ys : List Row) → shared xs ys ≡ shared ys xs
 shared-flip xs ys = omega (arith, first-shared xs ys, second-shared ys xs)
 
-pub shared-reordered : (xs ys us vs : List Row) → Shuffled xs us → Shuffled ys vs → shared us vs ≡ shared xs ys
-shared-reordered xs ys us vs p q = omega (arith, first-shared xs ys, first-shared us vs, length-shuffled xs us p, missing-steady .reordered xs ys us vs p q)
+same-long : (xs ys : List Row) → SameBag xs ys → length ys ≡ length xs
+same-long xs ys h = omega (arith, sumBy-one xs, sumBy-one ys, sum-grows (λ _. 1) xs ys (λ z. omega (arith, h z)), sum-grows (λ _. 1) ys xs (λ z. omega (arith, h z)))
+
+pub shared-same : (xs ys us vs : List Row) → SameBag xs us → SameBag ys vs → shared us vs ≡ shared xs ys
+shared-same xs ys us vs p q =
+    let few = missing-alike xs ys us vs (λ z. omega (arith, p z, q z)) in
+    let many = missing-alike us vs xs ys (λ z. omega (arith, p z, q z)) in
+    omega (arith, first-shared xs ys, first-shared us vs, same-long xs us p)
 
 -- ---- one row more
 

@@ -2,6 +2,7 @@
 mod distances;
 mod merging;
 mod plain;
+mod sorting;
 
 pub use distances::distance;
 
