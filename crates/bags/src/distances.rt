@@ -22,6 +22,7 @@ pub fn distance<A: Source, B: Source>(first: &A, second: &B) -> usize
     rows_apart(first, second)
 }
 
+// The rows of both that pair off with none of the other.
 fn rows_apart<A: Source, B: Source>(first: &A, second: &B) -> usize
     ensures { λ r. ⌜ r ≡ distance (A·Source .meaning (now (first .entry)) .rows) (B·Source .meaning (now (second .entry)) .rows) ⌝ }
 {
