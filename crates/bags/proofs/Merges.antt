@@ -15,7 +15,7 @@ use Rattle.std.specs.declared.cmp.Ordering.{Ordering}
 use Rattle.std.specs.declared.cmp.Ordering.the-variants.{Less, Equal, Greater}
 use Rattle.sources.specs.Source.{Row}
 use Rattle.bags.specs.Distance.{same, shared, times}
-use Rattle.bags.specs.Plain.{Sorted}
+use Rattle.bags.specs.Order.{Sorted}
 use Rattle.bags.proofs.Counts.{same-is, times-absent}
 use Rattle.bags.proofs.Shares.{shared-both, shared-flip, shared-other}
 

@@ -9,7 +9,7 @@ use lib.ListN.{length, length-map}
 use Rattle.std.specs.shelf.Lists.{All, sumBy}
 use Rattle.sources.specs.Source.{Row}
 use Rattle.bags.specs.Distance.{Pairs, different, missing, same, shared, times}
-use Rattle.bags.specs.Plain.{SameBag}
+use Rattle.bags.specs.Order.{SameBag}
 use Rattle.bags.proofs.Counts.{Once, same-is, sum-grows, sumBy-one, sumBy-plus, times-cons, times-other, weighted}
 use Rattle.bags.proofs.Laws.{missing-alike, missing-steady}
 use Rattle.bags.proofs.Lost.{distance-is, first-once, missing-is, missing-over, second-once}
