@@ -1,5 +1,5 @@
 -- How often a row stands in a bag, and sums over the rows by their counts.
-use mathlib.Core.Bool.{Bool, true, false, cond, not, _&&_}
+use mathlib.Core.Bool.{Bool, true, false, cond, not}
 use mathlib.Core.List.{List, [], _∷_, _++_, map}
 use mathlib.Core.Path.{_≡_, _∙_, ap, refl, sym, subst}
 use native.Mathlib.Nat.{add-mul, mul-le-mul-right, one-mul, zero-mul}

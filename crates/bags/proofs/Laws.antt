@@ -1,20 +1,20 @@
 -- The laws of the distance: first of what is missing, in one direction, and then of both directions together.
 use mathlib.Core.Bool.{Bool, true, false, cond}
 use mathlib.Core.List.{List, [], _∷_, _++_, map}
-use mathlib.Core.Path.{_≡_, _∙_, ap, refl, subst, sym}
-use native.Mathlib.Nat.{mul-le-mul-left, mul-comm, mul-add}
+use mathlib.Core.Path.{_≡_, ap, refl, subst, sym}
+use native.Mathlib.Nat.{mul-add, mul-comm}
 use native.Mathlib.Omega.{arith}
 use Prim.Native.Nat.{ℕ, suc, _+_, _*_, _-_, _≤_}
-use lib.IntN.{ℤ, pos, negsuc, natAbs, _+ℤ_, _-ℤ_}
+use lib.IntN.{ℤ, pos, negsuc, natAbs, _-ℤ_}
 use lib.ListN.{length, length-append, length-map}
 use Rattle.std.proofs.shelf.Signed.{ints}
 use Rattle.std.proofs.shelf.Sums.{sumBy-cons, sumBy-le}
 use Rattle.std.specs.shelf.Lists.{All, kept-by, sumBy}
 use Rattle.std.specs.shelf.Sorted.{Shuffled}
 use Rattle.sources.specs.Source.{Row}
-use Rattle.bags.specs.Distance.{distance, gap, missing, same, times}
+use Rattle.bags.specs.Distance.{distance, missing, same, times}
 use Rattle.bags.specs.Laws.{Bounding, Steady, total}
-use Rattle.bags.proofs.Counts.{sumBy-one, times-append, times-kept, times-map, times-none, times-shuffled}
+use Rattle.bags.proofs.Counts.{sumBy-one, times-append, times-kept, times-map, times-shuffled}
 use Rattle.bags.proofs.Lost.{distance-is, lost, missing-is, missing-least, sum-lost, times-lost}
 
 -- ---- what is missing
@@ -28,11 +28,11 @@ missing-triangle xs ys zs =
     let m = lost ys zs in
     omega (arith, missing-is xs ys, missing-is ys zs, length-append l m, missing-least (l ++ m) xs zs (λ z. omega (arith, times-append z l m, times-lost z xs ys, times-lost z ys zs)))
 
--- bags with as much more of each row
+-- bags with no more of any row, beyond what the others have, miss no more
 pub missing-alike : (xs ys us vs : List Row) → ((z : Row) → times z us - times z vs ≤ times z xs - times z ys) → missing us vs ≤ missing xs ys
 missing-alike xs ys us vs h = omega (arith, missing-is xs ys, missing-least (lost xs ys) us vs (λ z. omega (arith, h z, times-lost z xs ys)))
 
-pub missing-reordered : (xs ys us vs : List Row) → Shuffled xs us → Shuffled ys vs → missing us vs ≡ missing xs ys
+missing-reordered : (xs ys us vs : List Row) → Shuffled xs us → Shuffled ys vs → missing us vs ≡ missing xs ys
 missing-reordered xs ys us vs p q =
     let few = missing-alike xs ys us vs (λ z. omega (arith, times-shuffled z xs us p, times-shuffled z ys vs q)) in
     let many = missing-alike us vs xs ys (λ z. omega (arith, times-shuffled z xs us p, times-shuffled z ys vs q)) in
@@ -45,7 +45,7 @@ missing-kept p xs ys = missing-alike xs ys (kept-by p xs) (kept-by p ys) (λ z. 
     go true m n = omega arith
     go false m n = omega arith
 
-pub missing-mapped : (f : Row → Row) (xs ys : List Row) → missing (map f xs) (map f ys) ≤ missing xs ys
+missing-mapped : (f : Row → Row) (xs ys : List Row) → missing (map f xs) (map f ys) ≤ missing xs ys
 missing-mapped f xs ys =
     let l = lost xs ys in
     omega (arith, missing-is xs ys, length-map l f, missing-least (map f l) (map f xs) (map f ys) (λ z. omega (arith, times-map f z xs, times-map f z ys, times-map f z l, sum-lost (λ x. cond (same z (f x)) 1 0) xs ys)))
@@ -106,15 +106,15 @@ module _ (f : Row → ℤ) where
   total-is [] = refl
   total-is (r ∷ rs) = omega (arith, ints, total-is rs, parts (f r) .0, sumBy-cons (λ r. above (f r)) r rs, sumBy-cons (λ r. below (f r)) r rs)
 
-  module _ (m : ℕ) (within : (r : Row) → natAbs (f r) ≤ m) (xs ys : List Row) where
+  module _ (m : ℕ) (within : (r : Row) → natAbs (f r) ≤ m) where
     up : (xs ys : List Row) → sumBy (λ r. above (f r)) xs ≤ sumBy (λ r. above (f r)) ys + m * missing xs ys
     up = missing-sum (λ r. above (f r)) m (λ r. omega (arith, within r, parts (f r) .1))
 
     down : (xs ys : List Row) → sumBy (λ r. below (f r)) xs ≤ sumBy (λ r. below (f r)) ys + m * missing xs ys
     down = missing-sum (λ r. below (f r)) m (λ r. omega (arith, within r, parts (f r) .1))
 
-    sums-bounded : natAbs (total f xs -ℤ total f ys) ≤ m * distance xs ys
-    sums-bounded = omega (arith, ints, total-is xs, total-is ys, up xs ys, up ys xs, down xs ys, down ys xs, ap (λ n. m * n) (distance-is xs ys), mul-add m (missing xs ys) (missing ys xs))
+    sums-bounded : (xs ys : List Row) → natAbs (total f xs -ℤ total f ys) ≤ m * distance xs ys
+    sums-bounded xs ys = omega (arith, ints, total-is xs, total-is ys, up xs ys, up ys xs, down xs ys, down ys xs, ap (λ n. m * n) (distance-is xs ys), mul-add m (missing xs ys) (missing ys xs))
 
 pub distance-bounding : Bounding distance
 distance-bounding =

@@ -3,4 +3,5 @@ pub mod Laws
 pub mod Lost
 pub mod Merges
 pub mod Padding
+pub mod Runs
 pub mod Shares

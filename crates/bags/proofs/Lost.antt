@@ -1,10 +1,10 @@
 -- The rows that one bag has more than another: as many as are missing, and no bag that makes up for what is missing has fewer.
 use mathlib.Core.Bool.{Bool, true, false, cond}
 use mathlib.Core.List.{List, [], _∷_, _++_}
-use mathlib.Core.Path.{_≡_, _∙_, ap, refl, sym, subst}
+use mathlib.Core.Path.{_≡_, _∙_, refl, sym, subst}
 use native.Mathlib.Nat.{mul-one}
 use native.Mathlib.Omega.{arith}
-use Prim.Native.Nat.{ℕ, _+_, _*_, _-_, _≤_}
+use Prim.Native.Nat.{ℕ, _+_, _-_, _≤_}
 use lib.Dec.{leb}
 use lib.ListN.{length}
 use Rattle.std.proofs.shelf.Sums.{sumBy-append}
@@ -47,6 +47,7 @@ missing-over u xs ys once =
 once-each : (xs ys : List Row) → Once (different (xs ++ ys)) (xs ++ ys)
 once-each xs ys z h = times-different z (xs ++ ys) ∙ omega (arith, h)
 
+-- the different rows of two bags have each row of either once
 module _ (xs ys : List Row) where
   pub first-once : Once (different (xs ++ ys)) xs
   first-once z h = once-each xs ys z (omega (arith, times-append z xs ys))
@@ -74,5 +75,6 @@ sum-lost g xs ys = omega (arith, sumBy-append g ys (lost xs ys), sum-grows g xs 
 abbrev pub MakesUp : (l xs ys : List Row) → Type 0
 MakesUp l xs ys = (z : Row) → times z xs ≤ times z ys + times z l
 
+-- no bag that makes up for what is missing is shorter than what is lost
 pub missing-least : (l xs ys : List Row) → MakesUp l xs ys → missing xs ys ≤ length l
 missing-least l xs ys h = omega (arith, missing-is xs ys, sumBy-one l, sumBy-one (lost xs ys), sum-grows (λ _. 1) (lost xs ys) l (λ z. omega (arith, times-lost z xs ys, h z)))

@@ -1,10 +1,9 @@
 -- Two sorted bags, walked together: what the first rows of both tell of what they share.
 use mathlib.Core.Bool.{Bool, true, false, true≢false}
 use mathlib.Core.List.{List, [], _∷_}
-use mathlib.Core.Path.{_≡_, _∙_, ap, refl, sym, subst}
+use mathlib.Core.Path.{_≡_, _∙_, ap, refl, sym}
 use native.Mathlib.Omega.{arith}
-use Prim.Native.Nat.{ℕ, _+_, _-_, _<_, _≤_}
-use lib.IntN.{ℤ}
+use Prim.Native.Nat.{ℕ, _+_, _<_}
 use lib.ListN.{drop, getD, length}
 use Rattle.std.proofs.shelf.Elements.{all-from-getD}
 use Rattle.std.proofs.shelf.Lists.{drop-more, getD-drop, length-drop}
@@ -16,7 +15,7 @@ use Rattle.std.specs.declared.cmp.Ordering.{Ordering}
 use Rattle.std.specs.declared.cmp.Ordering.the-variants.{Less, Equal, Greater}
 use Rattle.sources.specs.Source.{Row}
 use Rattle.bags.specs.Distance.{same, shared, times}
-use Rattle.bags.specs.Plain.{Sorted}
+use Rattle.bags.specs.Order.{Sorted}
 use Rattle.bags.proofs.Counts.{same-is, times-absent}
 use Rattle.bags.proofs.Shares.{shared-both, shared-flip, shared-other}
 

@@ -1,38 +1,41 @@
 -- What two bags share: each bag is what it shares and what the other lacks of it.
-use mathlib.Core.Bool.{Bool, true, false, cond}
+use mathlib.Core.Bool.{Bool, true, false}
 use mathlib.Core.List.{List, [], _∷_, _++_, map}
 use mathlib.Core.Path.{_≡_, _∙_, ap, refl, sym}
 use native.Mathlib.Nat.{mul-one}
 use native.Mathlib.Omega.{arith}
-use Prim.Native.Nat.{ℕ, min, _+_, _*_, _-_, _≤_}
+use Prim.Native.Nat.{ℕ, min, _+_, _-_, _≤_}
 use lib.ListN.{length, length-map}
-use Rattle.std.proofs.shelf.Sorted.{length-shuffled}
 use Rattle.std.specs.shelf.Lists.{All, sumBy}
-use Rattle.std.specs.shelf.Sorted.{Shuffled}
 use Rattle.sources.specs.Source.{Row}
 use Rattle.bags.specs.Distance.{Pairs, different, missing, same, shared, times}
-use Rattle.bags.proofs.Counts.{Once, same-is, sumBy-one, sumBy-plus, times-none, times-other, times-same, times-cons, same-itself, weighted}
-use Rattle.bags.proofs.Laws.{missing-alike, missing-mapped, missing-reordered}
+use Rattle.bags.specs.Order.{SameBag}
+use Rattle.bags.proofs.Counts.{Once, same-is, sum-grows, sumBy-one, sumBy-plus, times-cons, times-other, weighted}
+use Rattle.bags.proofs.Laws.{missing-alike, missing-steady}
 use Rattle.bags.proofs.Lost.{distance-is, first-once, missing-is, missing-over, second-once}
 
+-- the counts of a bag's rows make up its length, where each of them stands once
+counted : (u l : List Row) → Once u l → sumBy (λ z. times z l) u ≡ length l
+counted u l once = (λ i. sumBy (λ z. sym (mul-one (times z l)) i) u) ∙ weighted (λ _. 1) u l once ∙ sumBy-one l
+
+-- what one bag has more of each row, and what both have of it, is what the one has
+parted : (f g h : Row → ℕ) (u : List Row) → ((z : Row) → f z + g z ≡ h z) → sumBy f u + sumBy g u ≡ sumBy h u
+parted f g h u e = sym (sumBy-plus f g u) ∙ (λ i. sumBy (λ z. e z i) u)
+
 module _ (xs ys : List Row) where
-  -- the counts of a bag's rows make up its length, where each of them stands once
-  counted : (l : List Row) → Once (different (xs ++ ys)) l → sumBy (λ z. times z l) (different (xs ++ ys)) ≡ length l
-  counted l once = (λ i. sumBy (λ z. sym (mul-one (times z l)) i) (different (xs ++ ys))) ∙ weighted (λ _. 1) (different (xs ++ ys)) l once ∙ sumBy-one l
-
-  parted : (f g h : Row → ℕ) → ((z : Row) → f z + g z ≡ h z) → sumBy f (different (xs ++ ys)) + sumBy g (different (xs ++ ys)) ≡ sumBy h (different (xs ++ ys))
-  parted f g h e = sym (sumBy-plus f g (different (xs ++ ys))) ∙ (λ i. sumBy (λ z. e z i) (different (xs ++ ys)))
-
   pub first-shared : missing xs ys + shared xs ys ≡ length xs
   unfolding missing shared
-  first-shared = parted (λ z. times z xs - times z ys) (λ z. min (times z xs) (times z ys)) (λ z. times z xs) (λ z. omega arith) ∙ counted xs (first-once xs ys)
+  first-shared =
+      let u = different (xs ++ ys) in
+      parted (λ z. times z xs - times z ys) (λ z. min (times z xs) (times z ys)) (λ z. times z xs) u (λ z. omega arith) ∙ counted u xs (first-once xs ys)
 
   pub second-shared : missing ys xs + shared xs ys ≡ length ys
   unfolding shared
   second-shared =
-      ap (λ n. n + shared xs ys) (missing-is ys xs ∙ sym (missing-over (different (xs ++ ys)) ys xs (second-once xs ys)))
-      ∙ parted (λ z. times z ys - times z xs) (λ z. min (times z xs) (times z ys)) (λ z. times z ys) (λ z. omega arith)
-      ∙ counted ys (second-once xs ys)
+      let u = different (xs ++ ys) in
+      ap (λ n. n + shared xs ys) (missing-is ys xs ∙ sym (missing-over u ys xs (second-once xs ys)))
+      ∙ parted (λ z. times z ys - times z xs) (λ z. min (times z xs) (times z ys)) (λ z. times z ys) u (λ z. omega arith)
+      ∙ counted u ys (second-once xs ys)
 
 pub shared-pairs : (xs ys : List Row) (n : ℕ) → n ≡ shared xs ys → Pairs n xs ys
 shared-pairs xs ys n e =
@@ -43,8 +46,14 @@ shared-pairs xs ys n e =
 pub shared-flip : (xs ys : List Row) → shared xs ys ≡ shared ys xs
 shared-flip xs ys = omega (arith, first-shared xs ys, second-shared ys xs)
 
-pub shared-reordered : (xs ys us vs : List Row) → Shuffled xs us → Shuffled ys vs → shared us vs ≡ shared xs ys
-shared-reordered xs ys us vs p q = omega (arith, first-shared xs ys, first-shared us vs, length-shuffled xs us p, missing-reordered xs ys us vs p q)
+same-long : (xs ys : List Row) → SameBag xs ys → length ys ≡ length xs
+same-long xs ys h = omega (arith, sumBy-one xs, sumBy-one ys, sum-grows (λ _. 1) xs ys (λ z. omega (arith, h z)), sum-grows (λ _. 1) ys xs (λ z. omega (arith, h z)))
+
+pub shared-same : (xs ys us vs : List Row) → SameBag xs us → SameBag ys vs → shared us vs ≡ shared xs ys
+shared-same xs ys us vs p q =
+    let few = missing-alike xs ys us vs (λ z. omega (arith, p z, q z)) in
+    let many = missing-alike us vs xs ys (λ z. omega (arith, p z, q z)) in
+    omega (arith, first-shared xs ys, first-shared us vs, same-long xs us p)
 
 -- ---- one row more
 
@@ -81,6 +90,6 @@ back f g (x ∷ xs) h = λ i. h .0 i ∷ back f g xs (h .1) i
 
 pub shared-mapped : (f g : Row → Row) (xs ys : List Row) → All (λ x. g (f x) ≡ x) xs → All (λ y. g (f y) ≡ y) ys → shared (map f xs) (map f ys) ≡ shared xs ys
 shared-mapped f g xs ys p q =
-    let few = missing-mapped f xs ys in
-    let many : missing xs ys ≤ missing (map f xs) (map f ys) = rw (back f g xs p, back f g ys q) at (missing-mapped g (map f xs) (map f ys)) in
+    let few = missing-steady .mapped f xs ys in
+    let many : missing xs ys ≤ missing (map f xs) (map f ys) = rw (back f g xs p, back f g ys q) at (missing-steady .mapped g (map f xs) (map f ys)) in
     omega (arith, first-shared xs ys, first-shared (map f xs) (map f ys), length-map xs f)

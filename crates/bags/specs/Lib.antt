@@ -1,3 +1,4 @@
 pub mod Distance
 pub mod Laws
+pub mod Order
 pub mod Plain

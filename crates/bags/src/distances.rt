@@ -10,8 +10,9 @@ use sources::Source;
 
 // Over all different rows, the positive difference of their counts: a row changed counts 2, and a row more 1.
 // Rows of different widths are different rows.
-// It asks each source once for each cell, and compares rows O(n log n) times for n rows of both together. It cannot
-// want for memory: a source has at most 4,096 rows of at most 6 cells, so the copies stand on the stack, 400 kB.
+// For n rows of both together it asks each source once for each cell, and compares and moves rows O(n log n) times.
+// It cannot want for memory: a source has at most 4,096 rows of at most 6 cells, so that the copies stand on the
+// stack, less than 600 kB.
 pub fn distance<A: Source, B: Source>(first: &A, second: &B) -> usize
     ensures value { λ r. ⌜ r ≡ distance (A·Source .meaning (now (first .entry)) .rows) (B·Source .meaning (now (second .entry)) .rows) ⌝ }
     ensures steady { λ _. ⌜ Steady distance ⌝ }
@@ -21,6 +22,7 @@ pub fn distance<A: Source, B: Source>(first: &A, second: &B) -> usize
     rows_apart(first, second)
 }
 
+// The rows of both that pair off with none of the other.
 fn rows_apart<A: Source, B: Source>(first: &A, second: &B) -> usize
     ensures { λ r. ⌜ r ≡ distance (A·Source .meaning (now (first .entry)) .rows) (B·Source .meaning (now (second .entry)) .rows) ⌝ }
 {

@@ -1,7 +1,7 @@
 // Two sorted bags of rows, walked together.
 ghost use mathlib.Core.Path.{_≡_};
 ghost use Rattle.bags.specs.Distance.{shared};
-ghost use Rattle.bags.specs.Plain.{Sorted};
+ghost use Rattle.bags.specs.Order.{Sorted};
 use crate::plain::Plain;
 use std::cmp::Ordering;
 

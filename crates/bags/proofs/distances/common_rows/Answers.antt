@@ -1,6 +1,6 @@
 use mathlib.Core.Path.{sym}
 use native.Mathlib.Omega.{arith}
-use Rattle.bags.specs.Plain.{Sorted}
+use Rattle.bags.specs.Order.{Sorted}
 use Rattle.bags.proofs.Padding.{front, fronts-share, shared-apart}
 use Rattle.bags.proofs.Shares.{shared-pairs}
 use Rattle.bags.proofs.distances.common_rows.Needs as need
