@@ -40,7 +40,7 @@ pub impl Fault for FormFault as FormFaultFault {
 
     fn refusal(&self) -> Refusal {
         match *self {
-            FormFault::Line(fault) => fault.refusal(),
+            FormFault::Line(of_line) => of_line.refusal(),
             FormFault::Misplaced { line } => Refusal {
                 number: 8,
                 first: line,
