@@ -49,6 +49,34 @@ entry Let = row "let" Number 0 (Number ∷ Number ∷ [])
 abbrev pub all_words : List Word
 all_words = Word.Bag ∷ Keep ∷ Put ∷ Pool ∷ Col ∷ Lit ∷ Plus ∷ Times ∷ Pick ∷ Less ∷ Equal ∷ Either ∷ Not ∷ Num ∷ Setting ∷ Var ∷ Count ∷ Sum ∷ Add ∷ Sub ∷ Least ∷ Most ∷ Scale ∷ Clip ∷ Let ∷ []
 
+-- where a word stands among them, from 0
+abbrev pub place : Word → ℕ
+place Word.Bag = 0
+place Keep = 1
+place Put = 2
+place Pool = 3
+place Col = 4
+place Lit = 5
+place Plus = 6
+place Times = 7
+place Pick = 8
+place Less = 9
+place Equal = 10
+place Either = 11
+place Not = 12
+place Num = 13
+place Setting = 14
+place Var = 15
+place Count = 16
+place Sum = 17
+place Add = 18
+place Sub = 19
+place Least = 20
+place Most = 21
+place Scale = 22
+place Clip = 23
+place Let = 24
+
 -- the first of ws that is spelled bs
 abbrev pub spelled_in : List Word → List ℕ → Option Word
 spelled_in [] bs = None

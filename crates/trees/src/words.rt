@@ -1,8 +1,9 @@
 // The words of a query, by one table: how each is spelled, what its form gives, and what stands in it.
-ghost use Rattle.std.specs.Prelude.{◌≡◌, Decides};
-ghost use Rattle.trees.specs.Words.{entry, all_words, spelled_in, word_spelled, Names, SpelledApart};
+ghost use Rattle.std.specs.Prelude.{◌≡◌, ◌==◌, Decides};
+ghost use Rattle.trees.specs.Words.{entry, all_words, place, spelled_in, word_spelled, Names, SpelledApart};
 ghost use Rattle.std.specs.Cmp.Rules.{comparing};
 ghost use Rattle.std.proofs.Common.{rules};
+ghost use Rattle.std.specs.Ordering.{on};
 ghost use Rattle.std.specs.Cmp as Keys;
 
 use crate::Kind;
@@ -37,11 +38,14 @@ pub enum Word {
 }
 
 impl PartialEq for Word {
-    ghost equals = { λ v w r. Decides r (v ≡ w) };
+    ghost eq = { on place ◌==◌ };
 
     ghost laws = { Keys.partial_equiv_from_equiv (Prim.search (comparing, rules)) };
 
-    fn eq(&self, other: &Word) -> bool {
+    fn eq(&self, other: &Word) -> bool
+        ensures value { result ≡ on place ◌==◌ self.now other.now }
+        ensures same { Decides result (self.now ≡ other.now) }
+    {
         *self as u8 == *other as u8
     }
 }

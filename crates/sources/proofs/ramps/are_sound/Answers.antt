@@ -4,10 +4,10 @@ use Rattle.sources.specs.Indexed.{each_more, each_not}
 use Rattle.sources.specs.Lines.{line, line_sound}
 use Rattle.sources.proofs.ramps.are_sound.Goals as goal
 
-pub returns-then-not-is-sound : goal.returns-then-not-is-sound
-returns-then-not-is-sound c =
-    let none = each_not (λ j. line_sound c.args.count (line c.args.lines.now j)) c.args.width c.loop-j.j c.loop-j-test.true (sym c.if-not-is-sound.ensures) in
+pub returns-then-not-is_sound : goal.returns-then-not-is_sound
+returns-then-not-is_sound c =
+    let none = each_not (λ j. line_sound c.args.count (line c.args.lines.now j)) c.args.width c.loop-j.j c.loop-j-test.true (sym c.if-not-is_sound.ensures) in
     sym (search (and_right, none))
 
 pub loop-j-preserved : goal.loop-j-preserved
-loop-j-preserved c = each_more (λ j. line_sound c.args.count (line c.args.lines.now j)) c.loop-j.j ∙ and_from _ _ (sym c.if-not-is-sound.ensures) c.loop-j.invariant
+loop-j-preserved c = each_more (λ j. line_sound c.args.count (line c.args.lines.now j)) c.loop-j.j ∙ and_from _ _ (sym c.if-not-is_sound.ensures) c.loop-j.invariant

@@ -3,8 +3,8 @@ use Rattle.sources.specs.Unions.{joint_limit, union, Unites}
 use Rattle.sources.proofs.Joins.{union_answers}
 use Rattle.sources.proofs.unions.Union.joint_limit.Goals as goal
 
-pub returns-then-limit-le-MAX-ROWS : goal.returns-then-limit-le-MAX-ROWS
-returns-then-limit-le-MAX-ROWS g c =
+pub returns-then-limit-le-MAX_ROWS : goal.returns-then-limit-le-MAX_ROWS
+returns-then-limit-le-MAX_ROWS g c =
     let u = c.args.self.now in
     let m = g.A.Source.meaning u.first in
     let n = g.B.Source.meaning u.second in
