@@ -4,7 +4,8 @@ use Rattle.std.proofs.ByRecursion.{All-from_get_or}
 use Rattle.std.proofs.lemmas.List.{drop_more, get_or-drop, length-drop}
 use Rattle.std.proofs.lemmas.List.Sorted.{searchable_from_sorted}
 use Rattle.std.specs.Cmp.{int_cmp_total, signed_Decides}
-use Rattle.std.specs.Cmp.Lexicographic.{lexical, slice_cmp, lists_total}
+use Rattle.std.specs.Cmp.Lexicographic.{slice_cmp}
+use Rattle.std.proofs.lemmas.Cmp.{lists_total}
 use Rattle.std.specs.Ordering.{is_eq, is_lt, ordering_index, ordering_reverse, ordering_then, int_cmp}
 use Rattle.sources.specs.Source.{Row}
 use Rattle.bags.specs.Distance.{same, shared, times}
@@ -30,7 +31,7 @@ ranked_equal (x ∷ xs) (y ∷ ys) e =
     λ i. (signed_Decides x y).0 p.0 i ∷ ranked_equal xs ys p.1 i
 
 ranked_itself : (x : Row) → ranked x x ≡ Equal
-ranked_itself x = go (ranked x x) refl ((lexical int_cmp_total).flip x x)
+ranked_itself x = go (ranked x x) refl ((lists_total int_cmp_total).antisymm x x)
   where
     go : (r : Ordering) → ranked x x ≡ r → ranked x x ≡ ordering_reverse (ranked x x) → ranked x x ≡ Equal
     go Less e h = let z : Less ≡ Greater = sym e ∙ h ∙ ap ordering_reverse e in absurd (true≢false (ap is_lt z))
@@ -42,7 +43,7 @@ absent : (x : Row) (ys : List Row) (j : ℕ) → Sorted ys → ranked x (get_or 
 absent x ys j sorted less = times_absent x (drop j ys) (All-from_get_or (λ y. same x y ≡ false) (drop j ys) [] (λ k h. other k h (same x (get_or (drop j ys) k [])) refl))
   where
     above : ranked (get_or ys j []) x ≡ Greater
-    above = (lexical int_cmp_total).flip (get_or ys j []) x ∙ ap ordering_reverse less
+    above = (lists_total int_cmp_total).antisymm (get_or ys j []) x ∙ ap ordering_reverse less
 
     other : (k : ℕ) → k < length (drop j ys) → (b : Bool) → same x (get_or (drop j ys) k []) ≡ b → b ≡ false
     other k h false e = refl
@@ -65,4 +66,4 @@ module _ (xs ys : List Row) (i j : ℕ) (in_xs : i < length xs) (in_ys : j < len
       ∙ shared_both x (drop (i + 1) xs) (drop (j + 1) ys)
 
 pub greater : (xs ys : List Row) (i j : ℕ) → i < length xs → j < length ys → Sorted xs → ranked (get_or xs i []) (get_or ys j []) ≡ Greater → shared (drop i xs) (drop j ys) ≡ shared (drop i xs) (drop (j + 1) ys)
-greater xs ys i j in_xs in_ys sorted e = shared_flip (drop i xs) (drop j ys) ∙ less ys xs j i in_ys in_xs sorted ((lexical int_cmp_total).flip (get_or ys j []) (get_or xs i []) ∙ ap ordering_reverse e) ∙ shared_flip (drop (j + 1) ys) (drop i xs)
+greater xs ys i j in_xs in_ys sorted e = shared_flip (drop i xs) (drop j ys) ∙ less ys xs j i in_ys in_xs sorted ((lists_total int_cmp_total).antisymm (get_or ys j []) (get_or xs i []) ∙ ap ordering_reverse e) ∙ shared_flip (drop (j + 1) ys) (drop i xs)

@@ -12,18 +12,18 @@ returns-then-width g c =
     let n = g.B.Source.meaning b in
     shared_pairs m.rows n.rows 0 (sym (shared_apart m n (g.A.Source.lawful a) (g.B.Source.lawful b) (λ e. c.if-width.true (omega (arith, c.width.ensures, c.width-2.ensures, e)))))
 
-pub shared-rows-requires : goal.shared-rows-requires
-shared-rows-requires g c =
-    let a = c.fill-sorted-n in
-    let b = c.fill-sorted-m in
+pub shared_rows-requires : goal.shared_rows-requires
+shared_rows-requires g c =
+    let a = c.fill_sorted-n in
+    let b = c.fill_sorted-m in
     record { first = front Sorted a.result a.new.rows a.ensures.sorts.sorted; second = front Sorted b.result b.new.rows b.ensures.sorts.sorted }
 
 pub returns : goal.returns
 returns g c =
     let a = c.args.first.now in
     let b = c.args.second.now in
-    let xs = c.fill-sorted-n in
-    let ys = c.fill-sorted-m in
+    let xs = c.fill_sorted-n in
+    let ys = c.fill_sorted-m in
     let m = g.A.Source.meaning a in
     let n = g.B.Source.meaning b in
-    shared_pairs m.rows n.rows c.shared-rows.result (fronts_share m n (g.A.Source.lawful a) (g.B.Source.lawful b) (omega (arith, c.if-width.false, c.width.ensures, c.width-2.ensures)) c.shared-rows.result xs.result ys.result xs.new.rows ys.new.rows xs.ensures.sorts ys.ensures.sorts c.shared-rows.ensures)
+    shared_pairs m.rows n.rows c.shared_rows.result (fronts_share m n (g.A.Source.lawful a) (g.B.Source.lawful b) (omega (arith, c.if-width.false, c.width.ensures, c.width-2.ensures)) c.shared_rows.result xs.result ys.result xs.new.rows ys.new.rows xs.ensures.sorts ys.ensures.sorts c.shared_rows.ensures)

@@ -1,7 +1,5 @@
 use Rattle.std.proofs.Common.{◌≡◌, [], get_or, drop, sym, ap, ◌∙◌, arith}
 use Rattle.std.proofs.lemmas.List.{drop_all}
-use Rattle.std.specs.Cmp.{int_cmp_total}
-use Rattle.std.specs.Cmp.Lexicographic.{lexical}
 use Rattle.bags.specs.Distance.{shared}
 use Rattle.bags.proofs.Merges.{equals, greater, less}
 use Rattle.bags.proofs.Shares.{shared_flip, shared_none}
@@ -13,7 +11,7 @@ loop-i-preserved-in-Less c =
     let ys = c.args.ys.now in
     let i = c.loop-i.i in
     let j = c.loop-i.j in
-    let told = (lexical int_cmp_total).says (get_or xs i []) (get_or ys j []) c.cmp.result c.cmp.ensures in
+    let told = c.cmp.ensures in
     let step = less xs ys i j c.loop-i-test.true c.if-j-ys.true c.requires.second (sym told ∙ c.in-Less.is) in
     (omega arith, omega arith, omega arith, omega (arith, c.loop-i.invariant.3))
 
@@ -23,7 +21,7 @@ loop-i-preserved-in-Greater c =
     let ys = c.args.ys.now in
     let i = c.loop-i.i in
     let j = c.loop-i.j in
-    let told = (lexical int_cmp_total).says (get_or xs i []) (get_or ys j []) c.cmp.result c.cmp.ensures in
+    let told = c.cmp.ensures in
     let step = greater xs ys i j c.loop-i-test.true c.if-j-ys.true c.requires.first (sym told ∙ c.in-Greater.is) in
     (omega arith, omega arith, omega arith, omega (arith, c.loop-i.invariant.3))
 
@@ -33,7 +31,7 @@ loop-i-preserved c =
     let ys = c.args.ys.now in
     let i = c.loop-i.i in
     let j = c.loop-i.j in
-    let told = (lexical int_cmp_total).says (get_or xs i []) (get_or ys j []) c.cmp.result c.cmp.ensures in
+    let told = c.cmp.ensures in
     let step = equals xs ys i j c.loop-i-test.true c.if-j-ys.true (sym told ∙ c.in-Equal.is) in
     (omega arith, omega arith, omega arith, omega (arith, c.loop-i.invariant.3))
 

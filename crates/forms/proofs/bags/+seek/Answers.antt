@@ -6,29 +6,29 @@ use Rattle.forms.proofs.Parts.{bags, reached, two}
 use Rattle.forms.proofs.Routes.{sought_first, sought_second, sought_up, sought_up_none, upward}
 use Rattle.forms.proofs.bags.+seek.Goals as goal
 
-pub form-at-requires : goal.form-at-requires
-form-at-requires t c = reached bags (λ _. Unit {0}) c.args.entries.now c.args.at (c.requires.is.0, c.requires.is.1, tt)
+pub form_at-requires : goal.form_at-requires
+form_at-requires t c = reached bags (λ _. Unit {0}) c.args.entries.now c.args.at (c.requires.is.0, c.requires.is.1, tt)
 
 pub seek-requires-in-Keep : goal.seek-requires-in-Keep
 seek-requires-in-Keep t c =
-    let u = upward c.args.entries.now c.args.at c.in-Keep.bag c.form-at.result c.requires.is.0 c.requires.is.1 c.form-at.ensures.stands c.in-Keep.is in
+    let u = upward c.args.entries.now c.args.at c.in-Keep.bag c.form_at.result c.requires.is.0 c.requires.is.1 c.form_at.ensures.stands c.in-Keep.is in
     (omega (arith, u.below, c.decreases), (c.requires.few, (u.x, u.is)))
 
 pub push-requires : goal.push-requires
 push-requires t c =
-    let u = upward c.args.entries.now c.args.at c.in-Keep.bag c.form-at.result c.requires.is.0 c.requires.is.1 c.form-at.ensures.stands c.in-Keep.is in
-    omega (arith, (c.in-ok-route.ensures u.x u.is).2, u.below, c.requires.few, reached bags (λ _. Unit {0}) c.args.entries.now c.args.at (c.requires.is.0, c.requires.is.1, tt))
+    let u = upward c.args.entries.now c.args.at c.in-Keep.bag c.form_at.result c.requires.is.0 c.requires.is.1 c.form_at.ensures.stands c.in-Keep.is in
+    omega (arith, (c.in_ok-route-in-Keep.ensures u.x u.is).2, u.below, c.requires.few, reached bags (λ _. Unit {0}) c.args.entries.now c.args.at (c.requires.is.0, c.requires.is.1, tt))
 
-pub returns-in-err-route : goal.returns-in-err-route
-returns-in-err-route t c = λ b e.
-    let u = upward c.args.entries.now c.args.at c.in-Keep.bag c.form-at.result b e c.form-at.ensures.stands c.in-Keep.is in
-    let p = err_from_is_err_and c.from-residual.result c.from-residual.ensures.1 in
-    rw (p.1, p.2) (sought_up_none c.args.entries.now c.args.at c.in-Keep.bag c.args.nth c.in-err-route.field-0.0 b u (c.in-err-route.ensures u.x u.is))
+pub returns-in_err-route-in-Keep : goal.returns-in_err-route-in-Keep
+returns-in_err-route-in-Keep t c = λ b e.
+    let u = upward c.args.entries.now c.args.at c.in-Keep.bag c.form_at.result b e c.form_at.ensures.stands c.in-Keep.is in
+    let p = err_from_is_err_and c.from_residual.result c.from_residual.ensures.1 in
+    rw (p.1, p.2) (sought_up_none c.args.entries.now c.args.at c.in-Keep.bag c.args.nth c.in_err-route-in-Keep.field-0.0 b u (c.in_err-route-in-Keep.ensures u.x u.is))
 
-pub returns-in-ok-route : goal.returns-in-ok-route
-returns-in-ok-route t c = λ b e.
-    let u = upward c.args.entries.now c.args.at c.in-Keep.bag c.form-at.result b e c.form-at.ensures.stands c.in-Keep.is in
-    sought_up c.args.entries.now c.args.at c.in-Keep.bag c.args.nth b u c.in-ok-route.route c.push.new.self (c.in-ok-route.ensures u.x u.is) c.push.ensures.source c.push.ensures.steps
+pub returns-in_ok-route-in-Keep : goal.returns-in_ok-route-in-Keep
+returns-in_ok-route-in-Keep t c = λ b e.
+    let u = upward c.args.entries.now c.args.at c.in-Keep.bag c.form_at.result b e c.form_at.ensures.stands c.in-Keep.is in
+    sought_up c.args.entries.now c.args.at c.in-Keep.bag c.args.nth b u c.in_ok-route-in-Keep.route c.push.new.self (c.in_ok-route-in-Keep.ensures u.x u.is) c.push.ensures.source c.push.ensures.steps
 
 pub seek-requires : goal.seek-requires
 seek-requires t c =

@@ -11,12 +11,12 @@ pass-requires c =
     let a = ahead c.args.entries.now (steps_of c.args.route.now) c.loop-i.i c.step.result c.loop-i.carried (carried c.requires.0 c.args.row.now) (omega (arith, c.loop-i-test.true, c.len-i-end.ensures)) c.step.ensures (c.loop-i.invariant c.requires.0 c.requires.1 c.requires.2) in
     (a.s, a.here, a.calm)
 
-pub returns-in-err-carried : goal.returns-in-err-carried
-returns-in-err-carried c =
+pub returns-in_err-carried : goal.returns-in_err-carried
+returns-in_err-carried c =
     record {
       carried = λ way l k.
           let a = ahead c.args.entries.now (steps_of c.args.route.now) c.loop-i.i c.step.result c.loop-i.carried (carried way c.args.row.now) (omega (arith, c.loop-i-test.true, c.len-i-end.ensures)) c.step.ensures (c.loop-i.invariant way l k) in
-          c.from-residual.ensures ∙ sym (a.dropped (sym (c.in-err-carried.ensures a.s a.here)));
+          c.from_residual.ensures ∙ sym (a.dropped (sym (c.in_err-carried.ensures a.s a.here)));
       spread = spread;
       unseen = unseen;
     }
@@ -24,7 +24,7 @@ returns-in-err-carried c =
 pub loop-i-preserved : goal.loop-i-preserved
 loop-i-preserved c = λ way l k.
     let a = ahead c.args.entries.now (steps_of c.args.route.now) c.loop-i.i c.step.result c.loop-i.carried (carried way c.args.row.now) (omega (arith, c.loop-i-test.true, c.len-i-end.ensures)) c.step.ensures (c.loop-i.invariant way l k) in
-    a.goes c.in-ok-carried.carried (sym (c.in-ok-carried.ensures a.s a.here))
+    a.goes c.in_ok-carried.carried (sym (c.in_ok-carried.ensures a.s a.here))
 
 pub returns : goal.returns
 returns c =

@@ -8,33 +8,33 @@ use Rattle.forms.proofs.Routes.{keep_step, put_step, step_inside}
 use Rattle.forms.proofs.Signs.{put_cell}
 use Rattle.forms.proofs.bags.pass.Goals as goal
 
-pub form-at-requires : goal.form-at-requires
-form-at-requires c = step_inside c.args.entries.now c.args.at c.requires.0 c.requires.1
+pub form_at-requires : goal.form_at-requires
+form_at-requires c = step_inside c.args.entries.now c.args.at c.requires.0 c.requires.1
 
-pub eval-condition-requires : goal.eval-condition-requires
-eval-condition-requires c =
+pub eval_condition-requires : goal.eval_condition-requires
+eval_condition-requires c =
     let k = keep_step c.args.entries.now c.args.at _ c.in-Keep.condition c.requires.0 c.in-Keep.ensures.stands c.requires.1 in
     record { tree = k.0; is = k.2; calm = subst (λ s. CalmStep s c.args.row) k.1 c.requires.2 }
 
-pub eval-term-value-requires : goal.eval-term-value-requires
-eval-term-value-requires c =
+pub eval_term-value-requires : goal.eval_term-value-requires
+eval_term-value-requires c =
     let k = put_step c.args.entries.now c.args.at _ c.in-Put.term c.in-Put.column c.requires.0 c.in-Put.ensures.stands c.requires.1 in
     let calm : CalmStep (puts c.in-Put.column k.0) c.args.row = subst (λ s. CalmStep s c.args.row) k.1 c.requires.2 in
     record { tree = k.0; is = k.2; calm = calm.1 }
 
-pub returns-then-eval-condition : goal.returns-then-eval-condition
-returns-then-eval-condition c = λ s h.
+pub returns-then-eval_condition : goal.returns-then-eval_condition
+returns-then-eval_condition c = λ s h.
     let k = keep_step c.args.entries.now c.args.at _ c.in-Keep.condition s c.in-Keep.ensures.stands h in
-    sym (ap (λ z. stepped z c.args.row) k.1 ∙ cond-true (holds k.0 c.args.row) (Some c.args.row) None (sym (c.eval-condition.ensures k.0 k.2) ∙ c.if-eval-condition.true))
+    sym (ap (λ z. stepped z c.args.row) k.1 ∙ cond-true (holds k.0 c.args.row) (Some c.args.row) None (sym (c.eval_condition.ensures k.0 k.2) ∙ c.if-eval_condition.true))
 
-pub returns-else-eval-condition : goal.returns-else-eval-condition
-returns-else-eval-condition c = λ s h.
+pub returns-else-eval_condition : goal.returns-else-eval_condition
+returns-else-eval_condition c = λ s h.
     let k = keep_step c.args.entries.now c.args.at _ c.in-Keep.condition s c.in-Keep.ensures.stands h in
-    sym (ap (λ z. stepped z c.args.row) k.1 ∙ cond-false (holds k.0 c.args.row) (Some c.args.row) None (sym (c.eval-condition.ensures k.0 k.2) ∙ c.if-eval-condition.false))
+    sym (ap (λ z. stepped z c.args.row) k.1 ∙ cond-false (holds k.0 c.args.row) (Some c.args.row) None (sym (c.eval_condition.ensures k.0 k.2) ∙ c.if-eval_condition.false))
 
 pub returns-in-Put : goal.returns-in-Put
 returns-in-Put c = λ s h.
     let k = put_step c.args.entries.now c.args.at _ c.in-Put.term c.in-Put.column s c.in-Put.ensures.stands h in
     let j = put_step c.args.entries.now c.args.at _ c.in-Put.term c.in-Put.column c.requires.0 c.in-Put.ensures.stands c.requires.1 in
     let calm : CalmStep (puts c.in-Put.column j.0) c.args.row = subst (λ s. CalmStep s c.args.row) j.1 c.requires.2 in
-    ap (λ x. Some x) (put_cell c.args.row cells c.in-Put.column c.eval-term-value.result _ (omega arith) calm.0 (search rules) (c.eval-term-value.ensures k.0 k.2)) ∙ sym (ap (λ z. stepped z c.args.row) k.1)
+    ap (λ x. Some x) (put_cell c.args.row cells c.in-Put.column c.eval_term-value.result _ (omega arith) calm.0 (search rules) (c.eval_term-value.ensures k.0 k.2)) ∙ sym (ap (λ z. stepped z c.args.row) k.1)

@@ -39,135 +39,135 @@ valued {es} {p} {r} k t is z e = for_all terms (λ t. CalmTerm t r) (λ t. value
 held : {es : List Entry} {p : ℕ} {r : Row} (k : CalmConditionAt es p r) (c : ConditionTree) → k.tree ≡ c → (b : Bool) → b ≡ holds c r → (u : ConditionTree) → part_at es p ≡ a_condition u → b ≡ holds u r
 held {es} {p} {r} k c is b e = for_all conditions (λ c. CalmCondition c r) (λ c. holds c r) es p (condition k) b (e ∙ ap (λ c. holds c r) (sym is))
 
-pub eval-term-form-at-requires : goal.eval-term-form-at-requires
-eval-term-form-at-requires t c =
+pub eval_term-form_at-requires : goal.eval_term-form_at-requires
+eval_term-form_at-requires t c =
     reached terms (λ t. CalmTerm t c.args.row.now) c.args.entries.now c.args.at (term c.requires)
 
-pub eval-term-eval-term-requires : goal.eval-term-eval-term-requires
-eval-term-eval-term-requires t c =
+pub eval_term-eval_term-requires : goal.eval_term-eval_term-requires
+eval_term-eval_term-requires t c =
     let i = pair plus c.requires c.in-Plus.left c.in-Plus.right c.in-Plus.ensures.stands in
     (omega (arith, i.first.below, c.decreases), record { tree = i.x; is = i.first.is; calm = i.known.1 })
 
-pub eval-term-eval-term-requires-in-Plus : goal.eval-term-eval-term-requires-in-Plus
-eval-term-eval-term-requires-in-Plus t c =
+pub eval_term-eval_term-requires-in-Plus : goal.eval_term-eval_term-requires-in-Plus
+eval_term-eval_term-requires-in-Plus t c =
     let i = pair plus c.requires c.in-Plus.left c.in-Plus.right c.in-Plus.ensures.stands in
     (omega (arith, i.second.below, c.decreases), record { tree = i.y; is = i.second.is; calm = i.known.2 })
 
-pub eval-term-overflow-add-result : goal.eval-term-overflow-add-result
-eval-term-overflow-add-result t c =
+pub eval_term-overflow_add-result : goal.eval_term-overflow_add-result
+eval_term-overflow_add-result t c =
     let i = pair plus c.requires c.in-Plus.left c.in-Plus.right c.in-Plus.ensures.stands in
-    op_fits ◌+ℤ◌ _ c.eval-term.result c.eval-term-in-Plus.result _ _ (omega arith) (search rules) (search rules) (c.eval-term.ensures i.x i.first.is) (c.eval-term-in-Plus.ensures i.y i.second.is) i.known.0
+    op_fits ◌+ℤ◌ _ c.eval_term.result c.eval_term-in-Plus.result _ _ (omega arith) (search rules) (search rules) (c.eval_term.ensures i.x i.first.is) (c.eval_term-in-Plus.ensures i.y i.second.is) i.known.0
 
-pub eval-term-returns-in-Plus : goal.eval-term-returns-in-Plus
-eval-term-returns-in-Plus t c =
+pub eval_term-returns-in-Plus : goal.eval_term-returns-in-Plus
+eval_term-returns-in-Plus t c =
     let i = pair plus c.requires c.in-Plus.left c.in-Plus.right c.in-Plus.ensures.stands in
-    valued c.requires (plus i.x i.y) i.is _ (op_is ◌+ℤ◌ _ c.eval-term.result c.eval-term-in-Plus.result _ _ (omega arith) (search rules) (search rules) (c.eval-term.ensures i.x i.first.is) (c.eval-term-in-Plus.ensures i.y i.second.is) i.known.0)
+    valued c.requires (plus i.x i.y) i.is _ (op_is ◌+ℤ◌ _ c.eval_term.result c.eval_term-in-Plus.result _ _ (omega arith) (search rules) (search rules) (c.eval_term.ensures i.x i.first.is) (c.eval_term-in-Plus.ensures i.y i.second.is) i.known.0)
 
-pub eval-term-eval-term-requires-in-Times : goal.eval-term-eval-term-requires-in-Times
-eval-term-eval-term-requires-in-Times t c =
+pub eval_term-eval_term-requires-in-Times : goal.eval_term-eval_term-requires-in-Times
+eval_term-eval_term-requires-in-Times t c =
     let i = pair times c.requires c.in-Times.left c.in-Times.right c.in-Times.ensures.stands in
     (omega (arith, i.first.below, c.decreases), record { tree = i.x; is = i.first.is; calm = i.known.1 })
 
-pub eval-term-eval-term-requires-in-Times-2 : goal.eval-term-eval-term-requires-in-Times-2
-eval-term-eval-term-requires-in-Times-2 t c =
+pub eval_term-eval_term-requires-in-Times-2 : goal.eval_term-eval_term-requires-in-Times-2
+eval_term-eval_term-requires-in-Times-2 t c =
     let i = pair times c.requires c.in-Times.left c.in-Times.right c.in-Times.ensures.stands in
     (omega (arith, i.second.below, c.decreases), record { tree = i.y; is = i.second.is; calm = i.known.2 })
 
-pub eval-term-overflow-mul-result : goal.eval-term-overflow-mul-result
-eval-term-overflow-mul-result t c =
+pub eval_term-overflow_mul-result : goal.eval_term-overflow_mul-result
+eval_term-overflow_mul-result t c =
     let i = pair times c.requires c.in-Times.left c.in-Times.right c.in-Times.ensures.stands in
-    op_fits ◌*ℤ◌ _ c.eval-term-in-Times.result c.eval-term-in-Times-2.result _ _ (omega arith) (search rules) (search rules) (c.eval-term-in-Times.ensures i.x i.first.is) (c.eval-term-in-Times-2.ensures i.y i.second.is) i.known.0
+    op_fits ◌*ℤ◌ _ c.eval_term-in-Times.result c.eval_term-in-Times-2.result _ _ (omega arith) (search rules) (search rules) (c.eval_term-in-Times.ensures i.x i.first.is) (c.eval_term-in-Times-2.ensures i.y i.second.is) i.known.0
 
-pub eval-term-returns-in-Times : goal.eval-term-returns-in-Times
-eval-term-returns-in-Times t c =
+pub eval_term-returns-in-Times : goal.eval_term-returns-in-Times
+eval_term-returns-in-Times t c =
     let i = pair times c.requires c.in-Times.left c.in-Times.right c.in-Times.ensures.stands in
-    valued c.requires (times i.x i.y) i.is _ (op_is ◌*ℤ◌ _ c.eval-term-in-Times.result c.eval-term-in-Times-2.result _ _ (omega arith) (search rules) (search rules) (c.eval-term-in-Times.ensures i.x i.first.is) (c.eval-term-in-Times-2.ensures i.y i.second.is) i.known.0)
+    valued c.requires (times i.x i.y) i.is _ (op_is ◌*ℤ◌ _ c.eval_term-in-Times.result c.eval_term-in-Times-2.result _ _ (omega arith) (search rules) (search rules) (c.eval_term-in-Times.ensures i.x i.first.is) (c.eval_term-in-Times-2.ensures i.y i.second.is) i.known.0)
 
-pub eval-term-eval-condition-requires : goal.eval-term-eval-condition-requires
-eval-term-eval-condition-requires t c =
+pub eval_term-eval_condition-requires : goal.eval_term-eval_condition-requires
+eval_term-eval_condition-requires t c =
     let i = choice c.requires c.in-Pick.condition c.in-Pick.first c.in-Pick.second c.in-Pick.ensures.stands in
     (omega (arith, i.first.below, c.decreases), record { tree = i.x; is = i.first.is; calm = i.known.0 })
 
-pub eval-term-eval-term-requires-then-eval-condition : goal.eval-term-eval-term-requires-then-eval-condition
-eval-term-eval-term-requires-then-eval-condition t c =
+pub eval_term-eval_term-requires-then-eval_condition : goal.eval_term-eval_term-requires-then-eval_condition
+eval_term-eval_term-requires-then-eval_condition t c =
     let i = choice c.requires c.in-Pick.condition c.in-Pick.first c.in-Pick.second c.in-Pick.ensures.stands in
     (omega (arith, i.second.below, c.decreases), record { tree = i.y; is = i.second.is; calm = i.known.1 })
 
-pub eval-term-eval-term-requires-else-eval-condition : goal.eval-term-eval-term-requires-else-eval-condition
-eval-term-eval-term-requires-else-eval-condition t c =
+pub eval_term-eval_term-requires-else-eval_condition : goal.eval_term-eval_term-requires-else-eval_condition
+eval_term-eval_term-requires-else-eval_condition t c =
     let i = choice c.requires c.in-Pick.condition c.in-Pick.first c.in-Pick.second c.in-Pick.ensures.stands in
     (omega (arith, i.third.below, c.decreases), record { tree = i.w; is = i.third.is; calm = i.known.2 })
 
-pub eval-term-returns-then-eval-condition : goal.eval-term-returns-then-eval-condition
-eval-term-returns-then-eval-condition t c =
+pub eval_term-returns-then-eval_condition : goal.eval_term-returns-then-eval_condition
+eval_term-returns-then-eval_condition t c =
     let i = choice c.requires c.in-Pick.condition c.in-Pick.first c.in-Pick.second c.in-Pick.ensures.stands in
-    valued c.requires (pick i.x i.y i.w) i.is _ (back c.eval-term-then-eval-condition.result _ (search rules) (c.eval-term-then-eval-condition.ensures i.y i.second.is) ∙ sym (cond-true (holds i.x c.args.row.now) _ _ (sym (c.eval-condition.ensures i.x i.first.is) ∙ c.if-eval-condition.true)))
+    valued c.requires (pick i.x i.y i.w) i.is _ (back c.eval_term-then-eval_condition.result _ (search rules) (c.eval_term-then-eval_condition.ensures i.y i.second.is) ∙ sym (cond-true (holds i.x c.args.row.now) _ _ (sym (c.eval_condition.ensures i.x i.first.is) ∙ c.if-eval_condition.true)))
 
-pub eval-term-returns-else-eval-condition : goal.eval-term-returns-else-eval-condition
-eval-term-returns-else-eval-condition t c =
+pub eval_term-returns-else-eval_condition : goal.eval_term-returns-else-eval_condition
+eval_term-returns-else-eval_condition t c =
     let i = choice c.requires c.in-Pick.condition c.in-Pick.first c.in-Pick.second c.in-Pick.ensures.stands in
-    valued c.requires (pick i.x i.y i.w) i.is _ (back c.eval-term-else-eval-condition.result _ (search rules) (c.eval-term-else-eval-condition.ensures i.w i.third.is) ∙ sym (cond-false (holds i.x c.args.row.now) _ _ (sym (c.eval-condition.ensures i.x i.first.is) ∙ c.if-eval-condition.false)))
+    valued c.requires (pick i.x i.y i.w) i.is _ (back c.eval_term-else-eval_condition.result _ (search rules) (c.eval_term-else-eval_condition.ensures i.w i.third.is) ∙ sym (cond-false (holds i.x c.args.row.now) _ _ (sym (c.eval_condition.ensures i.x i.first.is) ∙ c.if-eval_condition.false)))
 
-pub eval-condition-form-at-requires : goal.eval-condition-form-at-requires
-eval-condition-form-at-requires t c =
+pub eval_condition-form_at-requires : goal.eval_condition-form_at-requires
+eval_condition-form_at-requires t c =
     reached conditions (λ k. CalmCondition k c.args.row.now) c.args.entries.now c.args.at (condition c.requires)
 
-pub eval-condition-eval-term-requires : goal.eval-condition-eval-term-requires
-eval-condition-eval-term-requires t c =
+pub eval_condition-eval_term-requires : goal.eval_condition-eval_term-requires
+eval_condition-eval_term-requires t c =
     let i = both terms less c.requires c.in-Less.left c.in-Less.right c.in-Less.ensures.stands in
     (omega (arith, i.first.below, c.decreases), record { tree = i.x; is = i.first.is; calm = i.known.0 })
 
-pub eval-condition-eval-term-requires-in-Less : goal.eval-condition-eval-term-requires-in-Less
-eval-condition-eval-term-requires-in-Less t c =
+pub eval_condition-eval_term-requires-in-Less : goal.eval_condition-eval_term-requires-in-Less
+eval_condition-eval_term-requires-in-Less t c =
     let i = both terms less c.requires c.in-Less.left c.in-Less.right c.in-Less.ensures.stands in
     (omega (arith, i.second.below, c.decreases), record { tree = i.y; is = i.second.is; calm = i.known.1 })
 
-pub eval-condition-returns-in-Less : goal.eval-condition-returns-in-Less
-eval-condition-returns-in-Less t c =
+pub eval_condition-returns-in-Less : goal.eval_condition-returns-in-Less
+eval_condition-returns-in-Less t c =
     let i = both terms less c.requires c.in-Less.left c.in-Less.right c.in-Less.ensures.stands in
-    held c.requires (less i.x i.y) i.is _ (ap₂ lt_z (back c.eval-term.result _ (search rules) (c.eval-term.ensures i.x i.first.is)) (back c.eval-term-in-Less.result _ (search rules) (c.eval-term-in-Less.ensures i.y i.second.is)))
+    held c.requires (less i.x i.y) i.is _ (ap₂ lt_z (back c.eval_term.result _ (search rules) (c.eval_term.ensures i.x i.first.is)) (back c.eval_term-in-Less.result _ (search rules) (c.eval_term-in-Less.ensures i.y i.second.is)))
 
-pub eval-condition-eval-term-requires-in-Equal : goal.eval-condition-eval-term-requires-in-Equal
-eval-condition-eval-term-requires-in-Equal t c =
+pub eval_condition-eval_term-requires-in-Equal : goal.eval_condition-eval_term-requires-in-Equal
+eval_condition-eval_term-requires-in-Equal t c =
     let i = both terms equal c.requires c.in-Equal.left c.in-Equal.right c.in-Equal.ensures.stands in
     (omega (arith, i.first.below, c.decreases), record { tree = i.x; is = i.first.is; calm = i.known.0 })
 
-pub eval-condition-eval-term-requires-in-Equal-2 : goal.eval-condition-eval-term-requires-in-Equal-2
-eval-condition-eval-term-requires-in-Equal-2 t c =
+pub eval_condition-eval_term-requires-in-Equal-2 : goal.eval_condition-eval_term-requires-in-Equal-2
+eval_condition-eval_term-requires-in-Equal-2 t c =
     let i = both terms equal c.requires c.in-Equal.left c.in-Equal.right c.in-Equal.ensures.stands in
     (omega (arith, i.second.below, c.decreases), record { tree = i.y; is = i.second.is; calm = i.known.1 })
 
-pub eval-condition-returns-in-Equal : goal.eval-condition-returns-in-Equal
-eval-condition-returns-in-Equal t c =
+pub eval_condition-returns-in-Equal : goal.eval_condition-returns-in-Equal
+eval_condition-returns-in-Equal t c =
     let i = both terms equal c.requires c.in-Equal.left c.in-Equal.right c.in-Equal.ensures.stands in
-    held c.requires (equal i.x i.y) i.is _ (same_bits c.eval-term-in-Equal.result c.eval-term-in-Equal-2.result (search rules) (search rules) ∙ ap₂ eq_z (c.eval-term-in-Equal.ensures i.x i.first.is) (c.eval-term-in-Equal-2.ensures i.y i.second.is))
+    held c.requires (equal i.x i.y) i.is _ (same_bits c.eval_term-in-Equal.result c.eval_term-in-Equal-2.result (search rules) (search rules) ∙ ap₂ eq_z (c.eval_term-in-Equal.ensures i.x i.first.is) (c.eval_term-in-Equal-2.ensures i.y i.second.is))
 
-pub eval-condition-eval-condition-requires : goal.eval-condition-eval-condition-requires
-eval-condition-eval-condition-requires t c =
+pub eval_condition-eval_condition-requires : goal.eval_condition-eval_condition-requires
+eval_condition-eval_condition-requires t c =
     let i = both conditions either c.requires c.in-Either.left c.in-Either.right c.in-Either.ensures.stands in
     (omega (arith, i.first.below, c.decreases), record { tree = i.x; is = i.first.is; calm = i.known.0 })
 
-pub eval-condition-eval-condition-requires-else-eval-condition : goal.eval-condition-eval-condition-requires-else-eval-condition
-eval-condition-eval-condition-requires-else-eval-condition t c =
+pub eval_condition-eval_condition-requires-else-eval_condition : goal.eval_condition-eval_condition-requires-else-eval_condition
+eval_condition-eval_condition-requires-else-eval_condition t c =
     let i = both conditions either c.requires c.in-Either.left c.in-Either.right c.in-Either.ensures.stands in
     (omega (arith, i.second.below, c.decreases), record { tree = i.y; is = i.second.is; calm = i.known.1 })
 
-pub eval-condition-returns-then-eval-condition : goal.eval-condition-returns-then-eval-condition
-eval-condition-returns-then-eval-condition t c =
+pub eval_condition-returns-then-eval_condition : goal.eval_condition-returns-then-eval_condition
+eval_condition-returns-then-eval_condition t c =
     let i = both conditions either c.requires c.in-Either.left c.in-Either.right c.in-Either.ensures.stands in
-    held c.requires (either i.x i.y) i.is _ (c.if-eval-condition.true ∙ sym (or_left (holds i.x c.args.row.now) _ (sym (c.eval-condition.ensures i.x i.first.is) ∙ c.if-eval-condition.true)))
+    held c.requires (either i.x i.y) i.is _ (c.if-eval_condition.true ∙ sym (or_left (holds i.x c.args.row.now) _ (sym (c.eval_condition.ensures i.x i.first.is) ∙ c.if-eval_condition.true)))
 
-pub eval-condition-returns-else-eval-condition : goal.eval-condition-returns-else-eval-condition
-eval-condition-returns-else-eval-condition t c =
+pub eval_condition-returns-else-eval_condition : goal.eval_condition-returns-else-eval_condition
+eval_condition-returns-else-eval_condition t c =
     let i = both conditions either c.requires c.in-Either.left c.in-Either.right c.in-Either.ensures.stands in
-    held c.requires (either i.x i.y) i.is _ (c.eval-condition-else-eval-condition.ensures i.y i.second.is ∙ ap (λ b. b || holds i.y c.args.row.now) (sym c.if-eval-condition.false ∙ c.eval-condition.ensures i.x i.first.is))
+    held c.requires (either i.x i.y) i.is _ (c.eval_condition-else-eval_condition.ensures i.y i.second.is ∙ ap (λ b. b || holds i.y c.args.row.now) (sym c.if-eval_condition.false ∙ c.eval_condition.ensures i.x i.first.is))
 
-pub eval-condition-eval-condition-requires-in-Not : goal.eval-condition-eval-condition-requires-in-Not
-eval-condition-eval-condition-requires-in-Not t c =
+pub eval_condition-eval_condition-requires-in-Not : goal.eval_condition-eval_condition-requires-in-Not
+eval_condition-eval_condition-requires-in-Not t c =
     let i = negation c.requires c.in-Not.condition c.in-Not.ensures.stands in
     (omega (arith, i.first.below, c.decreases), record { tree = i.x; is = i.first.is; calm = i.known })
 
-pub eval-condition-returns-in-Not : goal.eval-condition-returns-in-Not
-eval-condition-returns-in-Not t c =
+pub eval_condition-returns-in-Not : goal.eval_condition-returns-in-Not
+eval_condition-returns-in-Not t c =
     let i = negation c.requires c.in-Not.condition c.in-Not.ensures.stands in
-    held c.requires (not i.x) i.is _ (ap negated (c.eval-condition-in-Not.ensures i.x i.first.is))
+    held c.requires (not i.x) i.is _ (ap negated (c.eval_condition-in-Not.ensures i.x i.first.is))

@@ -1,7 +1,7 @@
 use Rattle.forms.proofs.terms.+eval_condition_eval_term.Given as goal
 
-abbrev pub decreases-eval-condition : goal.decreases-eval-condition
-decreases-eval-condition l = l.at
+abbrev pub decreases-eval_condition : goal.decreases-eval_condition
+decreases-eval_condition l = l.at
 
-abbrev pub decreases-eval-term : goal.decreases-eval-term
-decreases-eval-term l = l.at
+abbrev pub decreases-eval_term : goal.decreases-eval_term
+decreases-eval_term l = l.at

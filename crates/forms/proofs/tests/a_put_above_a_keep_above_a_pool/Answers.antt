@@ -2,13 +2,13 @@ use Rattle.std.proofs.Common.{refl, arith}
 use Rattle.forms.specs.Table.{part_at, parts, parts_from}
 use Rattle.forms.proofs.tests.a_put_above_a_keep_above_a_pool.Goals as goal
 
-pub find-route-requires : goal.find-route-requires
+pub find_route-requires : goal.find_route-requires
 unfolding part_at parts parts_from
-find-route-requires c = record { few = omega arith; is = (_, refl) }
+find_route-requires c = record { few = omega arith; is = (_, refl) }
 
-pub find-route-requires-2 : goal.find-route-requires-2
+pub find_route-requires-2 : goal.find_route-requires-2
 unfolding part_at parts parts_from
-find-route-requires-2 c = record { few = omega arith; is = (_, refl) }
+find_route-requires-2 c = record { few = omega arith; is = (_, refl) }
 
 pub carry-requires : goal.carry-requires
 unfolding part_at parts parts_from

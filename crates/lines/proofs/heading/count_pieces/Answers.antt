@@ -4,4 +4,4 @@ use Rattle.lines.proofs.heading.count_pieces.Goals as goal
 use Rattle.lines.specs.Heading.{pieces_in}
 
 pub returns-in-len1-up : goal.returns-in-len1-up
-returns-in-len1-up c = c.count-fields.ensures ∙ sym (ap (λ (bs : List ℕ). length (pieces_in bs)) (first_rest c.args.pieces.now 0 (search rules)))
+returns-in-len1-up c = c.count_fields.ensures ∙ sym (ap (λ (bs : List ℕ). length (pieces_in bs)) (first_rest c.args.pieces.now 0 (search rules)))

@@ -46,8 +46,8 @@ total_of {es} {p} {settings = settings} {vars = vars} {sources = sources} {n = n
     let i = two bags terms numbers (sum lo hi) (λ z. CalmNumber z (inputs sources settings) vars) es p b t (known r) (s ∙ ap (build (take p (parts es))) e) in
     valued r (sum lo hi i.x i.y) i.is _ (r.right p n (within r) r.is (ap totalled i.is) ∙ ap (λ z. number z (inputs sources []) []) i.is)
 
-pub form-at-requires : goal.form-at-requires
-form-at-requires t c =
+pub form_at-requires : goal.form_at-requires
+form_at-requires t c =
     within c.requires.ready.2
 
 pub number-requires : goal.number-requires
@@ -60,8 +60,8 @@ number-requires-in-Add t c =
     let i = pair add c.requires.ready.2 c.in-Add.left c.in-Add.right c.in-Add.ensures.stands in
     (omega (arith, i.second.below, c.decreases), (c.requires.few, (omega (arith, i.second.below, c.decreases), (c.requires.ready.0, i.y, part c.requires.ready.2 i.second (in_scope c.args.scope.now) i.known.2))))
 
-pub overflow-add-result : goal.overflow-add-result
-overflow-add-result t c =
+pub overflow_add-result : goal.overflow_add-result
+overflow_add-result t c =
     let i = pair add c.requires.ready.2 c.in-Add.left c.in-Add.right c.in-Add.ensures.stands in
     op_fits ◌+ℤ◌ _ c.number.result c.number-in-Add.result _ _ (omega arith) (search rules) (search rules) (c.number.ensures c.requires.ready.0 i.x (part c.requires.ready.2 i.first (in_scope c.args.scope.now) i.known.1)) (c.number-in-Add.ensures c.requires.ready.0 i.y (part c.requires.ready.2 i.second (in_scope c.args.scope.now) i.known.2)) i.known.0
 
@@ -81,8 +81,8 @@ number-requires-in-Sub-2 t c =
     let i = pair sub c.requires.ready.2 c.in-Sub.left c.in-Sub.right c.in-Sub.ensures.stands in
     (omega (arith, i.second.below, c.decreases), (c.requires.few, (omega (arith, i.second.below, c.decreases), (c.requires.ready.0, i.y, part c.requires.ready.2 i.second (in_scope c.args.scope.now) i.known.2))))
 
-pub overflow-sub-result : goal.overflow-sub-result
-overflow-sub-result t c =
+pub overflow_sub-result : goal.overflow_sub-result
+overflow_sub-result t c =
     let i = pair sub c.requires.ready.2 c.in-Sub.left c.in-Sub.right c.in-Sub.ensures.stands in
     op_fits ◌-ℤ◌ _ c.number-in-Sub.result c.number-in-Sub-2.result _ _ (omega arith) (search rules) (search rules) (c.number-in-Sub.ensures c.requires.ready.0 i.x (part c.requires.ready.2 i.first (in_scope c.args.scope.now) i.known.1)) (c.number-in-Sub-2.ensures c.requires.ready.0 i.y (part c.requires.ready.2 i.second (in_scope c.args.scope.now) i.known.2)) i.known.0
 
@@ -129,8 +129,8 @@ number-requires-in-Scale t c =
     let i = single (scale c.in-Scale.factor) c.requires.ready.2 c.in-Scale.number c.in-Scale.ensures.stands in
     (omega (arith, i.first.below, c.decreases), (c.requires.few, (omega (arith, i.first.below, c.decreases), (c.requires.ready.0, i.x, part c.requires.ready.2 i.first (in_scope c.args.scope.now) i.known.1))))
 
-pub overflow-mul-result : goal.overflow-mul-result
-overflow-mul-result t c =
+pub overflow_mul-result : goal.overflow_mul-result
+overflow_mul-result t c =
     let i = single (scale c.in-Scale.factor) c.requires.ready.2 c.in-Scale.number c.in-Scale.ensures.stands in
     op_fits ◌*ℤ◌ _ c.in-Scale.factor c.number-in-Scale.result c.in-Scale.factor _ (omega arith) (search rules) (search rules) refl (c.number-in-Scale.ensures c.requires.ready.0 i.x (part c.requires.ready.2 i.first (in_scope c.args.scope.now) i.known.1)) i.known.0
 
@@ -173,4 +173,4 @@ returns-in-Let t c =
 
 pub returns-in-Count : goal.returns-in-Count
 returns-in-Count t c =
-    λ ss n r. back _ _ (search rules) (total_of r c.form-at.result c.form-at.ensures.stands c.in-Count.is)
+    λ ss n r. back _ _ (search rules) (total_of r c.form_at.result c.form_at.ensures.stands c.in-Count.is)

@@ -3,11 +3,11 @@ use Rattle.std.proofs.lemmas.List.{get_or-drop}
 use Rattle.forms.proofs.Signs.{back}
 use Rattle.forms.proofs.scope.Scope.get.Goals as goal
 
-pub overflow-add-result : goal.overflow-add-result
-overflow-add-result c = omega (arith, length-drop c.args.self.now.first c.args.self.now.values)
+pub overflow_add-result : goal.overflow_add-result
+overflow_add-result c = omega (arith, length-drop c.args.self.now.first c.args.self.now.values)
 
-pub offset-bounds-self-self : goal.offset-bounds-self-self
-offset-bounds-self-self c = omega (arith, length-drop c.args.self.now.first c.args.self.now.values)
+pub offset_bounds-self-self : goal.offset_bounds-self-self
+offset_bounds-self-self c = omega (arith, length-drop c.args.self.now.first c.args.self.now.values)
 
 pub bounds-self-self : goal.bounds-self-self
 bounds-self-self c = omega (arith, length-drop c.args.self.now.first c.args.self.now.values)
