@@ -12,26 +12,26 @@ use Rattle.reading.specs.Progress.{state}
 some_left : (n : ℕ) (t : Bool) → t ≡ eqb n 0 → t ≡ false → 0 < n
 some_left n t e f = let more = eqb-false n 0 (sym e ∙ f) in omega (arith, more)
 
-pub returns-in-err-token : goal.returns-in-err-token
-returns-in-err-token c =
-    let p = err_from_is_err_and c.from-residual.result c.from-residual.ensures.1 in
-    refused c.args.text.now p.0 c.from-residual.result (held c.loop-rest.table) (sym c.loop-rest.invariant.0 ∙ turn_fault (state c.loop-rest.progress c.loop-rest.table) (c.loop-rest.line + 1) c.loop-rest.rest.now c.in-err-token.field-0.0 (some_left (length c.loop-rest.rest.now) c.is-empty.result c.is-empty.ensures c.loop-rest-test.true) (sym c.in-err-token.ensures.value) ∙ ap (λ (x : FormFault). Err x) (sym p.2)) p.1
+pub returns-in_err-token : goal.returns-in_err-token
+returns-in_err-token c =
+    let p = err_from_is_err_and c.from_residual.result c.from_residual.ensures.1 in
+    refused c.args.text.now p.0 c.from_residual.result (held c.loop-rest.table) (sym c.loop-rest.invariant.0 ∙ turn_fault (state c.loop-rest.progress c.loop-rest.table) (c.loop-rest.line + 1) c.loop-rest.rest.now c.in_err-token.field-0.0 (some_left (length c.loop-rest.rest.now) c.is_empty.result c.is_empty.ensures c.loop-rest-test.true) (sym c.in_err-token.ensures.value) ∙ ap (λ (x : FormFault). Err x) (sym p.2)) p.1
 
-pub returns-in-err-step : goal.returns-in-err-step
-returns-in-err-step c =
-    let p = err_from_is_err_and c.from-residual-in-err-step.result c.from-residual-in-err-step.ensures.1 in
-    refused c.args.text.now p.0 c.from-residual-in-err-step.result (held c.step.new.table) (sym c.loop-rest.invariant.0 ∙ refuse (state c.loop-rest.progress c.loop-rest.table) (c.loop-rest.line + 1) c.loop-rest.rest.now c.in-ok-token.token c.in-ok-token.behind.now c.is-empty-in-loop-rest.result (some_left (length c.loop-rest.rest.now) c.is-empty.result c.is-empty.ensures c.loop-rest-test.true) (sym c.in-ok-token.ensures.value) c.is-empty-in-loop-rest.ensures c.in-err-step.field-0.0 c.in-err-step.ensures ∙ ap (λ (x : FormFault). Err x) (sym p.2)) p.1
+pub returns-in_err-step : goal.returns-in_err-step
+returns-in_err-step c =
+    let p = err_from_is_err_and c.from_residual-in_err-step.result c.from_residual-in_err-step.ensures.1 in
+    refused c.args.text.now p.0 c.from_residual-in_err-step.result (held c.step.new.table) (sym c.loop-rest.invariant.0 ∙ refuse (state c.loop-rest.progress c.loop-rest.table) (c.loop-rest.line + 1) c.loop-rest.rest.now c.in_ok-token.token c.in_ok-token.behind.now c.is_empty-in-loop-rest.result (some_left (length c.loop-rest.rest.now) c.is_empty.result c.is_empty.ensures c.loop-rest-test.true) (sym c.in_ok-token.ensures.value) c.is_empty-in-loop-rest.ensures c.in_err-step.field-0.0 c.in_err-step.ensures ∙ ap (λ (x : FormFault). Err x) (sym p.2)) p.1
 
 pub loop-rest-smaller : goal.loop-rest-smaller
-loop-rest-smaller c = shorter (state c.loop-rest.progress c.loop-rest.table) (c.loop-rest.line + 1) c.loop-rest.rest.now c.in-ok-token.token c.in-ok-token.behind.now c.is-empty-in-loop-rest.result (some_left (length c.loop-rest.rest.now) c.is-empty.result c.is-empty.ensures c.loop-rest-test.true) (sym c.in-ok-token.ensures.value) c.is-empty-in-loop-rest.ensures
+loop-rest-smaller c = shorter (state c.loop-rest.progress c.loop-rest.table) (c.loop-rest.line + 1) c.loop-rest.rest.now c.in_ok-token.token c.in_ok-token.behind.now c.is_empty-in-loop-rest.result (some_left (length c.loop-rest.rest.now) c.is_empty.result c.is_empty.ensures c.loop-rest-test.true) (sym c.in_ok-token.ensures.value) c.is_empty-in-loop-rest.ensures
 
 pub loop-rest-preserved : goal.loop-rest-preserved
 loop-rest-preserved c = (
-  sym (proceed (state c.loop-rest.progress c.loop-rest.table) (c.loop-rest.line + 1) c.loop-rest.rest.now c.in-ok-token.token c.in-ok-token.behind.now c.is-empty-in-loop-rest.result (some_left (length c.loop-rest.rest.now) c.is-empty.result c.is-empty.ensures c.loop-rest-test.true) (sym c.in-ok-token.ensures.value) c.is-empty-in-loop-rest.ensures (state c.step.new.self c.step.new.table) c.in-ok-step.ensures) ∙ c.loop-rest.invariant.0,
-  step_balanced (state c.loop-rest.progress c.loop-rest.table) c.is-empty-in-loop-rest.result c.in-ok-token.token (state c.step.new.self c.step.new.table) c.in-ok-step.ensures c.loop-rest.invariant.1,
-  omega (arith, shorter (state c.loop-rest.progress c.loop-rest.table) (c.loop-rest.line + 1) c.loop-rest.rest.now c.in-ok-token.token c.in-ok-token.behind.now c.is-empty-in-loop-rest.result (some_left (length c.loop-rest.rest.now) c.is-empty.result c.is-empty.ensures c.loop-rest-test.true) (sym c.in-ok-token.ensures.value) c.is-empty-in-loop-rest.ensures, c.loop-rest.invariant.2),
+  sym (proceed (state c.loop-rest.progress c.loop-rest.table) (c.loop-rest.line + 1) c.loop-rest.rest.now c.in_ok-token.token c.in_ok-token.behind.now c.is_empty-in-loop-rest.result (some_left (length c.loop-rest.rest.now) c.is_empty.result c.is_empty.ensures c.loop-rest-test.true) (sym c.in_ok-token.ensures.value) c.is_empty-in-loop-rest.ensures (state c.step.new.self c.step.new.table) c.in_ok-step.ensures) ∙ c.loop-rest.invariant.0,
+  step_balanced (state c.loop-rest.progress c.loop-rest.table) c.is_empty-in-loop-rest.result c.in_ok-token.token (state c.step.new.self c.step.new.table) c.in_ok-step.ensures c.loop-rest.invariant.1,
+  omega (arith, shorter (state c.loop-rest.progress c.loop-rest.table) (c.loop-rest.line + 1) c.loop-rest.rest.now c.in_ok-token.token c.in_ok-token.behind.now c.is_empty-in-loop-rest.result (some_left (length c.loop-rest.rest.now) c.is_empty.result c.is_empty.ensures c.loop-rest-test.true) (sym c.in_ok-token.ensures.value) c.is_empty-in-loop-rest.ensures, c.loop-rest.invariant.2),
 )
 
 pub returns : goal.returns
 returns c =
-    finished c.args.text.now (state c.loop-rest.progress c.loop-rest.table) (c.loop-rest.line + 1) c.loop-rest.rest.now c.kinds.result c.loop-rest.invariant.0 (eqb-true (length c.loop-rest.rest.now) 0 (sym c.is-empty.ensures ∙ c.loop-rest-test.false)) c.kinds.ensures
+    finished c.args.text.now (state c.loop-rest.progress c.loop-rest.table) (c.loop-rest.line + 1) c.loop-rest.rest.now c.kinds.result c.loop-rest.invariant.0 (eqb-true (length c.loop-rest.rest.now) 0 (sym c.is_empty.ensures ∙ c.loop-rest-test.false)) c.kinds.ensures

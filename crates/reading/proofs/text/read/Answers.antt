@@ -6,7 +6,7 @@ use Rattle.reading.specs.Law.{ReadsTrees}
 pub returns : goal.returns
 returns c =
     record {
-      reply = c.read-anew.ensures.reply;
-      table = c.read-anew.ensures.table;
-      law = subst₂ (ReadsTrees c.args.text.now) (sym c.read-anew.ensures.reply) (sym c.read-anew.ensures.table) (reads_trees c.args.text.now);
+      reply = c.read_anew.ensures.reply;
+      table = c.read_anew.ensures.table;
+      law = subst₂ (ReadsTrees c.args.text.now) (sym c.read_anew.ensures.reply) (sym c.read_anew.ensures.table) (reads_trees c.args.text.now);
     }

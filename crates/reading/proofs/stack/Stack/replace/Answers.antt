@@ -3,8 +3,8 @@ use Rattle.std.proofs.lemmas.List.{drop-set, drop_more}
 use Rattle.reading.specs.Stack.{replaced}
 use Rattle.reading.proofs.stack.Stack.replace.Goals as goal
 
-pub returns-then-self-lt-MAX-DEPTH : goal.returns-then-self-lt-MAX-DEPTH
-returns-then-self-lt-MAX-DEPTH c =
+pub returns-then-self-lt-MAX_DEPTH : goal.returns-then-self-lt-MAX_DEPTH
+returns-then-self-lt-MAX_DEPTH c =
     let first = c.args.self.now.first in
     let frames = c.args.self.now.frames in
     let inside : first < length frames = omega (arith, c.args.self.now.full) in
