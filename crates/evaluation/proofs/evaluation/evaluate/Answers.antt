@@ -11,15 +11,15 @@ use Rattle.evaluation.specs.Sums.{sources_of}
 use Rattle.evaluation.proofs.Ready.{all_typed, ready, two_settings}
 use Rattle.evaluation.proofs.evaluation.evaluate.Goals as goal
 
-pub totals-of-totals-requires : goal.totals-of-totals-requires
-totals-of-totals-requires g c =
+pub totals_of-totals-requires : goal.totals_of-totals-requires
+totals_of-totals-requires g c =
     let plant = c.args.plant.now in
     let p = plant_of g.A.Source.meaning g.B.Source.meaning plant in
     let (t, h) = c.requires.typed in
-    record { few = c.requires.few; typed = all_typed c.args.entries.now p t h (c.rules-keep-values-in-range.ensures.keep h.catalogue p h.fits) }
+    record { few = c.requires.few; typed = all_typed c.args.entries.now p t h (c.rules_keep_values_in_range.ensures.keep h.catalogue p h.fits) }
 
-pub overflow-sub-entries : goal.overflow-sub-entries
-overflow-sub-entries g c =
+pub overflow_sub-entries : goal.overflow_sub-entries
+overflow_sub-entries g c =
     let es = c.args.entries.now in
     let (t, h) = c.requires.typed in
     omega (arith, reached numbers (λ _. Unit {0}) es (length es - 1) (t, h.spells.is, tt))
@@ -34,7 +34,7 @@ number-requires g c =
     record {
       few = c.requires.few;
       spare = omega (arith, c.new.ensures.spare, c.requires.few);
-      ready = (sources_of p, t, ready es p t h (c.rules-keep-values-in-range.ensures.keep h.catalogue p h.fits) c.totals-of-totals.result plant.settings (in_scope c.new.result) (two_settings plant.settings two) c.new.ensures.values c.totals-of-totals.ensures);
+      ready = (sources_of p, t, ready es p t h (c.rules_keep_values_in_range.ensures.keep h.catalogue p h.fits) c.totals_of-totals.result plant.settings (in_scope c.new.result) (two_settings plant.settings two) c.new.ensures.values c.totals_of-totals.ensures);
     }
 
 pub returns : goal.returns
@@ -45,9 +45,9 @@ returns g c =
     let (t, h) = c.requires.typed in
     let two : length plant.settings ≡ 2 = search rules in
     let r = c.number.result in
-    let value = c.number.ensures (sources_of p) t (ready es p t h (c.rules-keep-values-in-range.ensures.keep h.catalogue p h.fits) c.totals-of-totals.result plant.settings (in_scope c.new.result) (two_settings plant.settings two) c.new.ensures.values c.totals-of-totals.ensures) in
+    let value = c.number.ensures (sources_of p) t (ready es p t h (c.rules_keep_values_in_range.ensures.keep h.catalogue p h.fits) c.totals_of-totals.result plant.settings (in_scope c.new.result) (two_settings plant.settings two) c.new.ensures.values c.totals_of-totals.ensures) in
     for_all numbers (λ _. Unit {0}) (λ (u : NumberTree). number u (inputs_of p) []) es (length es - 1) (t, h.spells.is, tt) _
-    (to_z-of_z w64 r (record { sfits = c.number.type-inv })
+    (to_z-of_z w64 r (record { sfits = c.number.type_inv })
     ∙ value
     ∙ ap (λ xs. number t (inputs (sources_of p) xs) (in_scope c.new.result)) (two_settings plant.settings two)
     ∙ ap (number t (inputs_of p)) c.new.ensures.values)

@@ -6,6 +6,6 @@ pub returns : goal.returns
 returns g c =
     let plant = c.args.plant.now in
     record {
-      reply = c.check-plant.ensures;
-      exactly = fits_exactly c.args.catalogue.now (plant_of g.A.Source.meaning g.B.Source.meaning plant) (g.A.Source.lawful plant.first.now) (g.B.Source.lawful plant.second.now) c.check-plant.result c.check-plant.ensures;
+      reply = c.check_plant.ensures;
+      exactly = fits_exactly c.args.catalogue.now (plant_of g.A.Source.meaning g.B.Source.meaning plant) (g.A.Source.lawful plant.first.now) (g.B.Source.lawful plant.second.now) c.check_plant.result c.check_plant.ensures;
     }

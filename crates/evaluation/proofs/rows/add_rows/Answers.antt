@@ -8,15 +8,15 @@ use Rattle.evaluation.proofs.Adding.{adds_bits, row_added, row_adds}
 use Rattle.evaluation.proofs.Copies.{row_wide}
 use Rattle.evaluation.proofs.rows.add_rows.Goals as goal
 
-pub add-row-sum-requires : goal.add-row-sum-requires
-add-row-sum-requires g c =
+pub add_row-sum-requires : goal.add_row-sum-requires
+add_row-sum-requires g c =
     let s = c.args.source.now in
     let m = g.S.Source.meaning s in
     let law = g.S.Source.lawful s in
     let es = c.args.entries.now in
     let steps = steps_of c.args.route.now in
     let h = adds_bits es c.args.addend steps m.width m.rows c.args.total c.requires.0 c.ranges.total c.requires.1 in
-    (c.requires.0, row_adds es c.args.addend steps m.width m.rows _ c.requires.0 h law.some_width c.loop-i.i (omega (arith, c.count-i-end.ensures)) (row_wide m law c.loop-i.i (omega (arith, c.count-i-end.ensures))) c.plain-row-row.result c.plain-row-row.ensures _ (c.loop-i.invariant c.requires.0 h))
+    (c.requires.0, row_adds es c.args.addend steps m.width m.rows _ c.requires.0 h law.some_width c.loop-i.i (omega (arith, c.count-i-end.ensures)) (row_wide m law c.loop-i.i (omega (arith, c.count-i-end.ensures))) c.plain_row-row.result c.plain_row-row.ensures _ (c.loop-i.invariant c.requires.0 h))
 
 pub loop-i-preserved : goal.loop-i-preserved
 loop-i-preserved g c = λ way h.
@@ -27,10 +27,10 @@ loop-i-preserved g c = λ way h.
     let steps = steps_of c.args.route.now in
     let there : c.loop-i.i < length m.rows = omega (arith, c.count-i-end.ensures) in
     let so_far = c.loop-i.invariant way h in
-    let fits : SFits w64 c.add-row-sum.result = record { sfits = c.add-row-sum.type-inv } in
-    to_z-of_z w64 c.add-row-sum.result fits
-    ∙ c.add-row-sum.ensures way (row_adds es c.args.addend steps m.width m.rows _ way h law.some_width c.loop-i.i there (row_wide m law c.loop-i.i there) c.plain-row-row.result c.plain-row-row.ensures _ so_far)
-    ∙ row_added es c.args.addend steps m.width m.rows _ way h law.some_width c.loop-i.i there (row_wide m law c.loop-i.i there) c.plain-row-row.result c.plain-row-row.ensures _ so_far
+    let fits : SFits w64 c.add_row-sum.result = record { sfits = c.add_row-sum.type_inv } in
+    to_z-of_z w64 c.add_row-sum.result fits
+    ∙ c.add_row-sum.ensures way (row_adds es c.args.addend steps m.width m.rows _ way h law.some_width c.loop-i.i there (row_wide m law c.loop-i.i there) c.plain_row-row.result c.plain_row-row.ensures _ so_far)
+    ∙ row_added es c.args.addend steps m.width m.rows _ way h law.some_width c.loop-i.i there (row_wide m law c.loop-i.i there) c.plain_row-row.result c.plain_row-row.ensures _ so_far
 
 pub returns : goal.returns
 returns g c = λ way h.

@@ -11,8 +11,8 @@ use Rattle.evaluation.specs.Sums.{sources_of}
 use Rattle.evaluation.proofs.Typed.{bag_added, leaf_added, leaf_adds, leaves_of}
 use Rattle.evaluation.proofs.totals.add_bag.Goals as goal
 
-pub add-leaf-total-requires : goal.add-leaf-total-requires
-add-leaf-total-requires g c =
+pub add_leaf-total-requires : goal.add_leaf-total-requires
+add_leaf-total-requires g c =
     let es = c.args.entries.now in
     let plant = c.args.plant.now in
     let p = plant_of g.A.Source.meaning g.B.Source.meaning plant in
@@ -31,8 +31,8 @@ loop-route-preserved g c =
     let n = c.loop-route.nth in
     let found = c.in-Some.ensures h.tree h.is in
     let so_far = c.loop-route.invariant ∙ ap (λ q. leaves_total (added es c.args.addend) (sources_of p) (take n (leaves_of q))) h.is in
-    to_z-of_z w64 c.add-leaf-total.result (record { sfits = c.add-leaf-total.type-inv })
-    ∙ c.add-leaf-total.ensures (get_or (leaves h.tree) n no_leaf) (leaf_adds es c.args.bag c.args.addend p h n found.0 _ so_far c.in-Some.route found.1)
+    to_z-of_z w64 c.add_leaf-total.result (record { sfits = c.add_leaf-total.type_inv })
+    ∙ c.add_leaf-total.ensures (get_or (leaves h.tree) n no_leaf) (leaf_adds es c.args.bag c.args.addend p h n found.0 _ so_far c.in-Some.route found.1)
     ∙ leaf_added es c.args.bag c.args.addend p h n found.0 _ so_far
     ∙ ap (λ q. leaves_total (added es c.args.addend) (sources_of p) (take (n + 1) (leaves_of q))) (sym h.is)
 
@@ -41,8 +41,8 @@ loop-route-smaller g c =
     let h = c.requires.typed in
     omega (arith, (c.in-Some.ensures h.tree h.is).0, ap (λ q. length (leaves_of q)) h.is)
 
-pub overflow-add-nth : goal.overflow-add-nth
-overflow-add-nth g c =
+pub overflow_add-nth : goal.overflow_add-nth
+overflow_add-nth g c =
     let h = c.requires.typed in
     let below : c.args.bag < 64 = omega (arith, c.requires.few, reached bags (λ _. Unit {0}) c.args.entries.now c.args.bag (h.tree, h.is, tt)) in
     omega (arith, (c.in-Some.ensures h.tree h.is).2, pow-lt below)
@@ -55,5 +55,5 @@ returns g c =
     let h = c.requires.typed in
     let n = c.loop-route.nth in
     let so_far = c.loop-route.invariant ∙ ap (λ q. leaves_total (added es c.args.addend) (sources_of p) (take n (leaves_of q))) h.is in
-    let end : length (leaves h.tree) ≤ n = c.in-default.ensures h.tree h.is in
+    let end : length (leaves h.tree) ≤ n = c.in_default.ensures h.tree h.is in
     for_all bags (λ _. Unit {0}) (λ (b : BagTree). total (added es c.args.addend) (rows b (sources_of p))) es c.args.bag (h.tree, h.is, tt) _ (bag_added es c.args.addend p h.tree n end _ so_far)

@@ -6,8 +6,8 @@ use Rattle.types.proofs.bag.replaced.Goals as goal
 pub loop-j-preserved : goal.loop-j-preserved
 loop-j-preserved c = filled_more (column c.args.shape.now.columns) c.loop-j.columns max_width c.loop-j.j _ (range (pos 0) (pos 0)) (omega (arith, c.loop-j-test.true, c.requires.narrow)) refl c.loop-j.invariant
 
-pub offset-bounds-columns-at : goal.offset-bounds-columns-at
-offset-bounds-columns-at c = omega (arith, length_columns c.args.shape.now, c.requires.inside, c.requires.narrow)
+pub offset_bounds-columns-at : goal.offset_bounds-columns-at
+offset_bounds-columns-at c = omega (arith, length_columns c.args.shape.now, c.requires.inside, c.requires.narrow)
 
 pub bounds-columns-at : goal.bounds-columns-at
 bounds-columns-at c = omega (arith, length_columns c.args.shape.now, c.requires.inside, c.requires.narrow)

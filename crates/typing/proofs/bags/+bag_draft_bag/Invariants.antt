@@ -5,5 +5,5 @@ use Rattle.typing.proofs.bags.+bag_draft_bag.Given as goal
 abbrev pub decreases-bag : goal.decreases-bag
 decreases-bag l = 2 * l.at + 1
 
-abbrev pub decreases-draft-bag : goal.decreases-draft-bag
-decreases-draft-bag l = 2 * l.at
+abbrev pub decreases-draft_bag : goal.decreases-draft_bag
+decreases-draft_bag l = 2 * l.at

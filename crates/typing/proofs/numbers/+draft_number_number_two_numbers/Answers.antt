@@ -38,27 +38,27 @@ part v f s d = record { form = f; small = s; shallow = omega (arith, d) }
 inner_part : (v w : Variables) {es : List Entry} {p n o : ℕ} {t : NumberTree} → FormAt es p n o t → NumbersWithin literal_bound t → depth t < spare v → spare w + 1 ≡ spare v → NumberAt es w p n o t
 inner_part v w f s d e = record { form = f; small = s; shallow = omega (arith, d) }
 
-pub number-entry-at-entry-requires : goal.number-entry-at-entry-requires
-number-entry-at-entry-requires t c = within c.requires.is.3.form
+pub number-entry_at-entry-requires : goal.number-entry_at-entry-requires
+number-entry_at-entry-requires t c = within c.requires.is.3.form
 
-pub number-returns-in-err-settle : goal.number-returns-in-err-settle
-number-returns-in-err-settle t c =
-    let p = err_from_is_err_and c.from-residual-in-err-settle.result c.from-residual-in-err-settle.ensures.1 in
+pub number-returns-in_err-settle : goal.number-returns-in_err-settle
+number-returns-in_err-settle t c =
+    let p = err_from_is_err_and c.from_residual-in_err-settle.result c.from_residual-in_err-settle.ensures.1 in
     rw (p.1, p.2)
     (λ n o tr at.
-    let x = number_shown (spare c.args.scope.now) c.in-ok-typed.typed in
-    let line = ap (λ (e : Entry). e.line) c.entry-at-entry.ensures ∙ (opens tr c.args.entries.now c.args.at n o at.form.lined).line in
-    (c.in-ok-typed.ensures n o tr at).0 ∙ ap (λ (r : Option Refusal). settle r x) (sym (c.in-err-settle.ensures ∙ ap (λ (i : ℕ). number_rule i x) line)))
+    let x = number_shown (spare c.args.scope.now) c.in_ok-typed.typed in
+    let line = ap (λ (e : Entry). e.line) c.entry_at-entry.ensures ∙ (opens tr c.args.entries.now c.args.at n o at.form.lined).line in
+    (c.in_ok-typed.ensures n o tr at).0 ∙ ap (λ (r : Option Refusal). settle r x) (sym (c.in_err-settle.ensures ∙ ap (λ (i : ℕ). number_rule i x) line)))
 
-pub number-offset-bounds-notes-entry : goal.number-offset-bounds-notes-entry
-number-offset-bounds-notes-entry t c =
+pub number-offset_bounds-notes-entry : goal.number-offset_bounds-notes-entry
+number-offset_bounds-notes-entry t c =
     let k = c.requires.is.3.form in
-    omega (arith, k.room, ap (λ (e : Entry). e.order) c.entry-at-entry.ensures, (opens c.requires.is.2 c.args.entries.now c.args.at c.requires.is.0 c.requires.is.1 k.lined).order)
+    omega (arith, k.room, ap (λ (e : Entry). e.order) c.entry_at-entry.ensures, (opens c.requires.is.2 c.args.entries.now c.args.at c.requires.is.0 c.requires.is.1 k.lined).order)
 
 pub number-bounds-notes-entry : goal.number-bounds-notes-entry
 number-bounds-notes-entry t c =
     let k = c.requires.is.3.form in
-    omega (arith, number_some c.requires.is.2 c.args.catalogue.now, k.room, c.requires.places, ap (λ (e : Entry). e.order) c.entry-at-entry.ensures, (opens c.requires.is.2 c.args.entries.now c.args.at c.requires.is.0 c.requires.is.1 k.lined).order)
+    omega (arith, number_some c.requires.is.2 c.args.catalogue.now, k.room, c.requires.places, ap (λ (e : Entry). e.order) c.entry_at-entry.ensures, (opens c.requires.is.2 c.args.entries.now c.args.at c.requires.is.0 c.requires.is.1 k.lined).order)
 
 pub number-returns : goal.number-returns
 number-returns t c =
@@ -66,32 +66,32 @@ number-returns t c =
     let k = c.args.catalogue.now in
     let v = c.args.scope.now in
     let rs = in_scope v in
-    let x = number_shown (spare v) c.in-ok-typed.typed in
-    let d = c.in-ok-typed.ensures n o tr at in
+    let x = number_shown (spare v) c.in_ok-typed.typed in
+    let d = c.in_ok-typed.ensures n o tr at in
     let e = opens tr c.args.entries.now c.args.at n o at.form.lined in
-    let nothing : None ≡ number_rule n x = c.in-ok-settle.ensures ∙ ap (λ (i : ℕ). number_rule i x) (ap (λ (y : Entry). y.line) c.entry-at-entry.ensures ∙ e.line) in
+    let nothing : None ≡ number_rule n x = c.in_ok-settle.ensures ∙ ap (λ (i : ℕ). number_rule i x) (ap (λ (y : Entry). y.line) c.entry_at-entry.ensures ∙ e.line) in
     let ok : number_typed n k rs tr ≡ Ok x = d.0 ∙ ap (λ (r : Option Refusal). settle r x) (sym nothing) in
     let own : number_notes n k rs tr ≡ number_note x.range x.inputs ∷ drop 1 (number_notes n k rs tr) = number_own tr n k rs ∙ ap (λ (r : Result NumberType Refusal). noted of_number r ∷ drop 1 (number_notes n k rs tr)) ok in
-    (ok, noted_whole c.args.notes.now o (number_note x.range x.inputs) (number_notes n k rs tr) _ (omega (arith, number_some tr k, at.form.room, c.requires.places)) own d.1 _ _ (ap (λ (y : Entry). y.order) c.entry-at-entry.ensures ∙ e.order) c.of-number.ensures, settled_good n (spare v) c.in-ok-typed.typed nothing)
+    (ok, noted_whole c.args.notes.now o (number_note x.range x.inputs) (number_notes n k rs tr) _ (omega (arith, number_some tr k, at.form.room, c.requires.places)) own d.1 _ _ (ap (λ (y : Entry). y.order) c.entry_at-entry.ensures ∙ e.order) c.of_number.ensures, settled_good n (spare v) c.in_ok-typed.typed nothing)
 
-pub two-numbers-returns : goal.two-numbers-returns
-two-numbers-returns t c =
+pub two_numbers-returns : goal.two_numbers-returns
+two_numbers-returns t c =
     λ n o a b at bt.
     let k = c.args.catalogue.now in
     let rs = in_scope c.args.scope.now in
-    let x = c.in-ok-x.ensures n o a at in
-    let y = c.in-ok-y.ensures (past n a) (o + size a) b bt in
+    let x = c.in_ok-x.ensures n o a at in
+    let y = c.in_ok-y.ensures (past n a) (o + size a) b bt in
     let here : o + size a ≡ o + length (number_notes n k rs a) = ap (λ (i : ℕ). o + i) (sym (number_count a n k rs)) in
     (numbers_two n k rs a b _ _ x.0 y.0, noted_both c.args.notes.now o (o + size a) (number_notes n k rs a) (number_notes (past n a) k rs b) _ _ x.1 y.1 here (omega (arith, at.form.room, c.requires.places)), (x.2, y.2))
 
-pub draft-number-entry-at-line-requires : goal.draft-number-entry-at-line-requires
-draft-number-entry-at-line-requires t c = within c.requires.is.3.form
+pub draft_number-entry_at-line-requires : goal.draft_number-entry_at-line-requires
+draft_number-entry_at-line-requires t c = within c.requires.is.3.form
 
-pub draft-number-form-at-requires : goal.draft-number-form-at-requires
-draft-number-form-at-requires t c = within c.requires.is.3.form
+pub draft_number-form_at-requires : goal.draft_number-form_at-requires
+draft_number-form_at-requires t c = within c.requires.is.3.form
 
-pub draft-number-returns-in-Num : goal.draft-number-returns-in-Num
-draft-number-returns-in-Num t c =
+pub draft_number-returns-in-Num : goal.draft_number-returns-in-Num
+draft_number-returns-in-Num t c =
     λ n o tr at.
     let v = c.args.scope.now in
     let z = c.in-Num.value in
@@ -100,96 +100,96 @@ draft-number-returns-in-Num t c =
     subst (λ (u : NumberTree). NumberDrafted c.args.catalogue.now v n o u c.args.notes.now (Ok c.unbound.result) c.args.notes.now) (sym is)
     (ap (λ (w : NumberType). settle (number_rule n w) w) (sym value), sym (noted_none c.args.notes.now (o + 1)), tt)
 
-pub draft-number-returns-in-Setting : goal.draft-number-returns-in-Setting
-draft-number-returns-in-Setting t c =
+pub draft_number-returns-in-Setting : goal.draft_number-returns-in-Setting
+draft_number-returns-in-Setting t c =
     λ n o tr at.
     let k = c.args.catalogue.now in
     let v = c.args.scope.now in
     let z = c.in-Setting.input in
-    let line = ap (λ (y : Entry). y.line) c.entry-at-line.ensures ∙ (opens tr c.args.entries.now c.args.at n o at.form.lined).line in
+    let line = ap (λ (y : Entry). y.line) c.entry_at-line.ensures ∙ (opens tr c.args.entries.now c.args.at n o at.form.lined).line in
     let is = of_leaf at.form (setting z) c.in-Setting.ensures.stands in
     let type = λ (w : ℤ). unbound (in_scope v) (setting_range k (index w)) (one_at (2 + index w)) in
     let value = c.of_setting.ensures v ∙ ap₂ (λ (i : ℕ) (w : ℤ). settle (scope_rule i (place 2 w)) (type w)) line (to_z-of_z w64 z (search rules)) in
     subst (λ (u : NumberTree). NumberDrafted k v n o u c.args.notes.now c.of_setting.result c.args.notes.now) (sym is)
     (drafted (number_shown (spare v)) (number_rule n) n (place 2 z) (type z) c.args.notes.now (o + 1) [] c.of_setting.result c.args.notes.now value (sym (noted_none c.args.notes.now (o + 1))))
 
-pub draft-number-returns-in-Var : goal.draft-number-returns-in-Var
-draft-number-returns-in-Var t c =
+pub draft_number-returns-in-Var : goal.draft_number-returns-in-Var
+draft_number-returns-in-Var t c =
     λ n o tr at.
     let k = c.args.catalogue.now in
     let v = c.args.scope.now in
     let z = c.in-Var.index in
-    let line = ap (λ (y : Entry). y.line) c.entry-at-line.ensures ∙ (opens tr c.args.entries.now c.args.at n o at.form.lined).line in
+    let line = ap (λ (y : Entry). y.line) c.entry_at-line.ensures ∙ (opens tr c.args.entries.now c.args.at n o at.form.lined).line in
     let is = of_leaf at.form (var z) c.in-Var.ensures.stands in
-    let value = c.of-variable.ensures ∙ ap₂ (λ (i : ℕ) (w : ℤ). settle (scope_rule i (place (length (in_scope v)) w)) (variable (in_scope v) (index w))) line (to_z-of_z w64 z (search rules)) in
-    subst (λ (u : NumberTree). NumberDrafted k v n o u c.args.notes.now c.of-variable.result c.args.notes.now) (sym is)
-    (drafted (number_shown (spare v)) (number_rule n) n (place (length (in_scope v)) z) (variable (in_scope v) (index z)) c.args.notes.now (o + 1) [] c.of-variable.result c.args.notes.now value (sym (noted_none c.args.notes.now (o + 1))))
+    let value = c.of_variable.ensures ∙ ap₂ (λ (i : ℕ) (w : ℤ). settle (scope_rule i (place (length (in_scope v)) w)) (variable (in_scope v) (index w))) line (to_z-of_z w64 z (search rules)) in
+    subst (λ (u : NumberTree). NumberDrafted k v n o u c.args.notes.now c.of_variable.result c.args.notes.now) (sym is)
+    (drafted (number_shown (spare v)) (number_rule n) n (place (length (in_scope v)) z) (variable (in_scope v) (index z)) c.args.notes.now (o + 1) [] c.of_variable.result c.args.notes.now value (sym (noted_none c.args.notes.now (o + 1))))
 
-pub draft-number-bag-requires : goal.draft-number-bag-requires
-draft-number-bag-requires t c =
+pub draft_number-bag-requires : goal.draft_number-bag-requires
+draft_number-bag-requires t c =
     let i = of_count c.requires.is.3.form c.in-Count.of (c.in-Count.ensures.value no_entry) c.in-Count.ensures.stands in
     record { sound = c.requires.sound; places = c.requires.places; is = (c.requires.is.0 + 1, c.requires.is.1 + 1, i.a, i.first) }
 
-pub draft-number-returns-in-err-rows : goal.draft-number-returns-in-err-rows
-draft-number-returns-in-err-rows t c =
-    let p = err_from_is_err_and c.from-residual.result c.from-residual.ensures.1 in
+pub draft_number-returns-in_err-rows-in-Count : goal.draft_number-returns-in_err-rows-in-Count
+draft_number-returns-in_err-rows-in-Count t c =
+    let p = err_from_is_err_and c.from_residual.result c.from_residual.ensures.1 in
     rw (p.1, p.2)
     (λ n o tr at.
     let k = c.args.catalogue.now in
     let rs = in_scope c.args.scope.now in
     let i = of_count at.form c.in-Count.of (c.in-Count.ensures.value no_entry) c.in-Count.ensures.stands in
-    ap (number_typed n k rs) i.is ∙ count_stops n k rs i.a _ (c.in-err-rows.ensures (n + 1) (o + 1) i.a i.first))
+    ap (number_typed n k rs) i.is ∙ count_stops n k rs i.a _ (c.in_err-rows-in-Count.ensures (n + 1) (o + 1) i.a i.first))
 
-pub draft-number-of-count-requires : goal.draft-number-of-count-requires
-draft-number-of-count-requires t c =
+pub draft_number-of_count-requires : goal.draft_number-of_count-requires
+draft_number-of_count-requires t c =
     let i = of_count c.requires.is.3.form c.in-Count.of (c.in-Count.ensures.value no_entry) c.in-Count.ensures.stands in
-    omega (arith, i.first.room, (c.in-ok-rows.ensures (c.requires.is.0 + 1) (c.requires.is.1 + 1) i.a i.first).2.few)
+    omega (arith, i.first.room, (c.in_ok-rows-in-Count.ensures (c.requires.is.0 + 1) (c.requires.is.1 + 1) i.a i.first).2.few)
 
-pub draft-number-returns-in-ok-rows : goal.draft-number-returns-in-ok-rows
-draft-number-returns-in-ok-rows t c =
+pub draft_number-returns-in_ok-rows-in-Count : goal.draft_number-returns-in_ok-rows-in-Count
+draft_number-returns-in_ok-rows-in-Count t c =
     λ n o tr at.
     let k = c.args.catalogue.now in
     let v = c.args.scope.now in
     let i = of_count at.form c.in-Count.of (c.in-Count.ensures.value no_entry) c.in-Count.ensures.stands in
-    let x = c.in-ok-rows.ensures (n + 1) (o + 1) i.a i.first in
+    let x = c.in_ok-rows-in-Count.ensures (n + 1) (o + 1) i.a i.first in
     subst (λ (u : NumberTree). NumberDrafted k v n o u c.args.notes.now (Ok c.of_count.result) c.bag.new.notes) (sym i.is)
     (count_goes n k (in_scope v) i.a _ (number_shown (spare v) c.of_count.result) (c.of_count.ensures v) x.0, x.1, tt)
 
-pub draft-number-bag-requires-in-Sum : goal.draft-number-bag-requires-in-Sum
-draft-number-bag-requires-in-Sum t c =
+pub draft_number-bag-requires-in-Sum : goal.draft_number-bag-requires-in-Sum
+draft_number-bag-requires-in-Sum t c =
     let i = of_sum c.requires.is.3.form c.in-Sum.low c.in-Sum.high c.in-Sum.of c.in-Sum.value (c.in-Sum.ensures.value no_entry) c.in-Sum.ensures.stands in
     record { sound = c.requires.sound; places = c.requires.places; is = (c.requires.is.0 + 1, c.requires.is.1 + 1, i.a, i.first) }
 
-pub draft-number-returns-in-err-rows-2 : goal.draft-number-returns-in-err-rows-2
-draft-number-returns-in-err-rows-2 t c =
-    let p = err_from_is_err_and c.from-residual-in-err-rows-2.result c.from-residual-in-err-rows-2.ensures.1 in
+pub draft_number-returns-in_err-rows-in-Sum : goal.draft_number-returns-in_err-rows-in-Sum
+draft_number-returns-in_err-rows-in-Sum t c =
+    let p = err_from_is_err_and c.from_residual-in_err-rows-in-Sum.result c.from_residual-in_err-rows-in-Sum.ensures.1 in
     rw (p.1, p.2)
     (λ n o tr at.
     let k = c.args.catalogue.now in
     let rs = in_scope c.args.scope.now in
     let i = of_sum at.form c.in-Sum.low c.in-Sum.high c.in-Sum.of c.in-Sum.value (c.in-Sum.ensures.value no_entry) c.in-Sum.ensures.stands in
-    ap (number_typed n k rs) i.is ∙ sum_stops n k rs i.a c.in-Sum.low c.in-Sum.high i.b _ (c.in-err-rows-2.ensures (n + 1) (o + 1) i.a i.first))
+    ap (number_typed n k rs) i.is ∙ sum_stops n k rs i.a c.in-Sum.low c.in-Sum.high i.b _ (c.in_err-rows-in-Sum.ensures (n + 1) (o + 1) i.a i.first))
 
-pub draft-number-term-requires : goal.draft-number-term-requires
-draft-number-term-requires t c =
+pub draft_number-term-requires : goal.draft_number-term-requires
+draft_number-term-requires t c =
     let i = of_sum c.requires.is.3.form c.in-Sum.low c.in-Sum.high c.in-Sum.of c.in-Sum.value (c.in-Sum.ensures.value no_entry) c.in-Sum.ensures.stands in
-    let x = c.in-ok-rows-2.ensures (c.requires.is.0 + 1) (c.requires.is.1 + 1) i.a i.first in
+    let x = c.in_ok-rows-in-Sum.ensures (c.requires.is.0 + 1) (c.requires.is.1 + 1) i.a i.first in
     record { narrow = x.2.narrow; places = omega (arith, c.requires.places); is = (past (c.requires.is.0 + 1) i.a, c.requires.is.1 + 1 + size i.a, i.b, i.second) }
 
-pub draft-number-returns-in-err-term : goal.draft-number-returns-in-err-term
-draft-number-returns-in-err-term t c =
-    let p = err_from_is_err_and c.from-residual-in-err-term.result c.from-residual-in-err-term.ensures.1 in
+pub draft_number-returns-in_err-term-in-Sum : goal.draft_number-returns-in_err-term-in-Sum
+draft_number-returns-in_err-term-in-Sum t c =
+    let p = err_from_is_err_and c.from_residual-in_err-term-in-Sum.result c.from_residual-in_err-term-in-Sum.ensures.1 in
     rw (p.1, p.2)
     (λ n o tr at.
     let k = c.args.catalogue.now in
     let rs = in_scope c.args.scope.now in
     let i = of_sum at.form c.in-Sum.low c.in-Sum.high c.in-Sum.of c.in-Sum.value (c.in-Sum.ensures.value no_entry) c.in-Sum.ensures.stands in
-    ap (number_typed n k rs) i.is ∙ sum_stops_later n k rs i.a c.in-Sum.low c.in-Sum.high i.b _ _ (c.in-ok-rows-2.ensures (n + 1) (o + 1) i.a i.first).0 (c.in-err-term.ensures (past (n + 1) i.a) (o + 1 + size i.a) i.b i.second))
+    ap (number_typed n k rs) i.is ∙ sum_stops_later n k rs i.a c.in-Sum.low c.in-Sum.high i.b _ _ (c.in_ok-rows-in-Sum.ensures (n + 1) (o + 1) i.a i.first).0 (c.in_err-term-in-Sum.ensures (past (n + 1) i.a) (o + 1 + size i.a) i.b i.second))
 
-pub draft-number-of-sum-requires : goal.draft-number-of-sum-requires
-draft-number-of-sum-requires t c =
+pub draft_number-of_sum-requires : goal.draft_number-of_sum-requires
+draft_number-of_sum-requires t c =
     let i = of_sum c.requires.is.3.form c.in-Sum.low c.in-Sum.high c.in-Sum.of c.in-Sum.value (c.in-Sum.ensures.value no_entry) c.in-Sum.ensures.stands in
-    let x = (c.in-ok-rows-2.ensures (c.requires.is.0 + 1) (c.requires.is.1 + 1) i.a i.first).2 in
+    let x = (c.in_ok-rows-in-Sum.ensures (c.requires.is.0 + 1) (c.requires.is.1 + 1) i.a i.first).2 in
     let small = subst (NumbersWithin literal_bound) i.is c.requires.is.3.small in
     let low : nat_abs c.in-Sum.low ≤ literal_bound = small.0 in
     let high : nat_abs c.in-Sum.high ≤ literal_bound = small.1.0 in
@@ -197,20 +197,20 @@ draft-number-of-sum-requires t c =
     let highs = to_z-of_z w64 c.in-Sum.high (search rules) in
     record { rows = omega (arith, i.first.room, x.few); low = omega (arith, ap nat_abs lows); high = omega (arith, ap nat_abs highs); small = x.small }
 
-pub draft-number-returns-in-ok-term : goal.draft-number-returns-in-ok-term
-draft-number-returns-in-ok-term t c =
+pub draft_number-returns-in_ok-term-in-Sum : goal.draft_number-returns-in_ok-term-in-Sum
+draft_number-returns-in_ok-term-in-Sum t c =
     λ n o tr at.
     let k = c.args.catalogue.now in
     let v = c.args.scope.now in
     let i = of_sum at.form c.in-Sum.low c.in-Sum.high c.in-Sum.of c.in-Sum.value (c.in-Sum.ensures.value no_entry) c.in-Sum.ensures.stands in
     let lo = c.in-Sum.low in
     let hi = c.in-Sum.high in
-    let w = c.in-ok-rows-2.rows in
-    let x = c.in-ok-rows-2.ensures (n + 1) (o + 1) i.a i.first in
-    let y = c.in-ok-term.ensures (past (n + 1) i.a) (o + 1 + size i.a) i.b i.second in
-    let line = ap (λ (y : Entry). y.line) c.entry-at-line.ensures ∙ (opens tr c.args.entries.now c.args.at n o at.form.lined).line in
+    let w = c.in_ok-rows-in-Sum.rows in
+    let x = c.in_ok-rows-in-Sum.ensures (n + 1) (o + 1) i.a i.first in
+    let y = c.in_ok-term-in-Sum.ensures (past (n + 1) i.a) (o + 1 + size i.a) i.b i.second in
+    let line = ap (λ (y : Entry). y.line) c.entry_at-line.ensures ∙ (opens tr c.args.entries.now c.args.at n o at.form.lined).line in
     let type = λ (p q : ℤ). unbound (in_scope v) (totals w.shape.limit p q) (multiplied (max (nat_abs p) (nat_abs q)) w.inputs) in
-    let value = c.of_sum.ensures v ∙ ap₂ (λ (p q : ℤ). settle (scope_rule c.entry-at-line.result.line (le_z p q)) (type p q)) (to_z-of_z w64 lo (search rules)) (to_z-of_z w64 hi (search rules)) ∙ ap (λ (l : ℕ). settle (scope_rule l (le_z lo hi)) (type lo hi)) line in
+    let value = c.of_sum.ensures v ∙ ap₂ (λ (p q : ℤ). settle (scope_rule c.entry_at-line.result.line (le_z p q)) (type p q)) (to_z-of_z w64 lo (search rules)) (to_z-of_z w64 hi (search rules)) ∙ ap (λ (l : ℕ). settle (scope_rule l (le_z lo hi)) (type lo hi)) line in
     let ys = λ (cs : List Range). term_notes (past (n + 1) i.a) cs i.b in
     let here : o + 1 + size i.a ≡ o + 1 + length (bag_notes (n + 1) k i.a) = ap (λ (j : ℕ). o + 1 + j) (sym (bag_count i.a (n + 1) k)) in
     let noted_now = noted_both c.args.notes.now (o + 1) (o + 1 + size i.a) (bag_notes (n + 1) k i.a) (ys (columns_of w.shape)) _ _ x.1 y.1 here (omega (arith, i.first.room, c.requires.places)) ∙ ap (λ (cs : List Range). noted_at c.args.notes.now (o + 1) (bag_notes (n + 1) k i.a ++ ys cs)) (sym (ap columns_in x.0)) in
@@ -219,17 +219,17 @@ draft-number-returns-in-ok-term t c =
     (subst (λ (s : Result NumberType Refusal). Drafted (number_shown (spare v)) (number_rule n) (λ _. Unit {0}) s c.args.notes.now (o + 1) notes c.of_sum.result c.term.new.notes) (sym (sum_goes n k (in_scope v) i.a lo hi i.b _ _ x.0 y.0))
     (drafted (number_shown (spare v)) (number_rule n) n (le_z lo hi) (type lo hi) c.args.notes.now (o + 1) notes c.of_sum.result c.term.new.notes value noted_now))
 
-pub draft-number-two-numbers-requires : goal.draft-number-two-numbers-requires
-draft-number-two-numbers-requires t c =
+pub draft_number-two_numbers-requires : goal.draft_number-two_numbers-requires
+draft_number-two_numbers-requires t c =
     let i = of_add c.requires.is.3.form c.in-Add.left c.in-Add.right (c.in-Add.ensures.value no_entry) c.in-Add.ensures.stands in
     let s = small_two add (spare c.args.scope.now) _ i.a i.b i.is c.requires.is.3.small c.requires.is.3.shallow (λ h. h) refl in
     let first = part c.args.scope.now i.first s.first s.first_depth in
     let second = part c.args.scope.now i.second s.second s.second_depth in
     (omega (arith, i.first_below, i.second_below, c.decreases), (c.requires.sound, (c.requires.places, (c.requires.is.0 + 1, c.requires.is.1 + 1, i.a, i.b, first, second))))
 
-pub draft-number-returns-in-err-x : goal.draft-number-returns-in-err-x
-draft-number-returns-in-err-x t c =
-    let p = err_from_is_err_and c.from-residual-in-err-x.result c.from-residual-in-err-x.ensures.1 in
+pub draft_number-returns-in_err-x-in-Add : goal.draft_number-returns-in_err-x-in-Add
+draft_number-returns-in_err-x-in-Add t c =
+    let p = err_from_is_err_and c.from_residual-in_err-x-in-Add.result c.from_residual-in_err-x-in-Add.ensures.1 in
     rw (p.1, p.2)
     (λ n o tr at.
     let k = c.args.catalogue.now in
@@ -238,19 +238,19 @@ draft-number-returns-in-err-x t c =
     let s = small_two add (spare c.args.scope.now) _ i.a i.b i.is at.small at.shallow (λ h. h) refl in
     let first = part c.args.scope.now i.first s.first s.first_depth in
     let second = part c.args.scope.now i.second s.second s.second_depth in
-    ap (number_typed n k rs) i.is ∙ pair_stops n k rs sums i.a i.b _ (c.in-err-x.ensures (n + 1) (o + 1) i.a i.b first second))
+    ap (number_typed n k rs) i.is ∙ pair_stops n k rs sums i.a i.b _ (c.in_err-x-in-Add.ensures (n + 1) (o + 1) i.a i.b first second))
 
-pub draft-number-plus-requires : goal.draft-number-plus-requires
-draft-number-plus-requires t c =
+pub draft_number-plus-requires : goal.draft_number-plus-requires
+draft_number-plus-requires t c =
     let i = of_add c.requires.is.3.form c.in-Add.left c.in-Add.right (c.in-Add.ensures.value no_entry) c.in-Add.ensures.stands in
     let s = small_two add (spare c.args.scope.now) _ i.a i.b i.is c.requires.is.3.small c.requires.is.3.shallow (λ h. h) refl in
     let first = part c.args.scope.now i.first s.first s.first_depth in
     let second = part c.args.scope.now i.second s.second s.second_depth in
-    let e = c.in-ok-x.ensures (c.requires.is.0 + 1) (c.requires.is.1 + 1) i.a i.b first second in
+    let e = c.in_ok-x-in-Add.ensures (c.requires.is.0 + 1) (c.requires.is.1 + 1) i.a i.b first second in
     record { first = e.2.0; second = e.2.1 }
 
-pub draft-number-returns-in-ok-x : goal.draft-number-returns-in-ok-x
-draft-number-returns-in-ok-x t c =
+pub draft_number-returns-in_ok-x-in-Add : goal.draft_number-returns-in_ok-x-in-Add
+draft_number-returns-in_ok-x-in-Add t c =
     λ n o tr at.
     let k = c.args.catalogue.now in
     let v = c.args.scope.now in
@@ -258,20 +258,20 @@ draft-number-returns-in-ok-x t c =
     let s = small_two add (spare c.args.scope.now) _ i.a i.b i.is at.small at.shallow (λ h. h) refl in
     let first = part c.args.scope.now i.first s.first s.first_depth in
     let second = part c.args.scope.now i.second s.second s.second_depth in
-    let e = c.in-ok-x.ensures (n + 1) (o + 1) i.a i.b first second in
+    let e = c.in_ok-x-in-Add.ensures (n + 1) (o + 1) i.a i.b first second in
     subst (λ (u : NumberTree). NumberDrafted k v n o u c.args.notes.now (Ok c.plus.result) c.two_numbers.new.notes) (sym i.is) (pair_goes n k (in_scope v) sums i.a i.b _ (number_shown (spare v) c.plus.result) c.plus.ensures e.0, e.1, tt)
 
-pub draft-number-two-numbers-requires-in-Sub : goal.draft-number-two-numbers-requires-in-Sub
-draft-number-two-numbers-requires-in-Sub t c =
+pub draft_number-two_numbers-requires-in-Sub : goal.draft_number-two_numbers-requires-in-Sub
+draft_number-two_numbers-requires-in-Sub t c =
     let i = of_sub c.requires.is.3.form c.in-Sub.left c.in-Sub.right (c.in-Sub.ensures.value no_entry) c.in-Sub.ensures.stands in
     let s = small_two sub (spare c.args.scope.now) _ i.a i.b i.is c.requires.is.3.small c.requires.is.3.shallow (λ h. h) refl in
     let first = part c.args.scope.now i.first s.first s.first_depth in
     let second = part c.args.scope.now i.second s.second s.second_depth in
     (omega (arith, i.first_below, i.second_below, c.decreases), (c.requires.sound, (c.requires.places, (c.requires.is.0 + 1, c.requires.is.1 + 1, i.a, i.b, first, second))))
 
-pub draft-number-returns-in-err-x-2 : goal.draft-number-returns-in-err-x-2
-draft-number-returns-in-err-x-2 t c =
-    let p = err_from_is_err_and c.from-residual-in-err-x-2.result c.from-residual-in-err-x-2.ensures.1 in
+pub draft_number-returns-in_err-x-in-Sub : goal.draft_number-returns-in_err-x-in-Sub
+draft_number-returns-in_err-x-in-Sub t c =
+    let p = err_from_is_err_and c.from_residual-in_err-x-in-Sub.result c.from_residual-in_err-x-in-Sub.ensures.1 in
     rw (p.1, p.2)
     (λ n o tr at.
     let k = c.args.catalogue.now in
@@ -280,19 +280,19 @@ draft-number-returns-in-err-x-2 t c =
     let s = small_two sub (spare c.args.scope.now) _ i.a i.b i.is at.small at.shallow (λ h. h) refl in
     let first = part c.args.scope.now i.first s.first s.first_depth in
     let second = part c.args.scope.now i.second s.second s.second_depth in
-    ap (number_typed n k rs) i.is ∙ pair_stops n k rs differences i.a i.b _ (c.in-err-x-2.ensures (n + 1) (o + 1) i.a i.b first second))
+    ap (number_typed n k rs) i.is ∙ pair_stops n k rs differences i.a i.b _ (c.in_err-x-in-Sub.ensures (n + 1) (o + 1) i.a i.b first second))
 
-pub draft-number-minus-requires : goal.draft-number-minus-requires
-draft-number-minus-requires t c =
+pub draft_number-minus-requires : goal.draft_number-minus-requires
+draft_number-minus-requires t c =
     let i = of_sub c.requires.is.3.form c.in-Sub.left c.in-Sub.right (c.in-Sub.ensures.value no_entry) c.in-Sub.ensures.stands in
     let s = small_two sub (spare c.args.scope.now) _ i.a i.b i.is c.requires.is.3.small c.requires.is.3.shallow (λ h. h) refl in
     let first = part c.args.scope.now i.first s.first s.first_depth in
     let second = part c.args.scope.now i.second s.second s.second_depth in
-    let e = c.in-ok-x-2.ensures (c.requires.is.0 + 1) (c.requires.is.1 + 1) i.a i.b first second in
+    let e = c.in_ok-x-in-Sub.ensures (c.requires.is.0 + 1) (c.requires.is.1 + 1) i.a i.b first second in
     record { first = e.2.0; second = e.2.1 }
 
-pub draft-number-returns-in-ok-x-2 : goal.draft-number-returns-in-ok-x-2
-draft-number-returns-in-ok-x-2 t c =
+pub draft_number-returns-in_ok-x-in-Sub : goal.draft_number-returns-in_ok-x-in-Sub
+draft_number-returns-in_ok-x-in-Sub t c =
     λ n o tr at.
     let k = c.args.catalogue.now in
     let v = c.args.scope.now in
@@ -300,20 +300,20 @@ draft-number-returns-in-ok-x-2 t c =
     let s = small_two sub (spare c.args.scope.now) _ i.a i.b i.is at.small at.shallow (λ h. h) refl in
     let first = part c.args.scope.now i.first s.first s.first_depth in
     let second = part c.args.scope.now i.second s.second s.second_depth in
-    let e = c.in-ok-x-2.ensures (n + 1) (o + 1) i.a i.b first second in
-    subst (λ (u : NumberTree). NumberDrafted k v n o u c.args.notes.now (Ok c.minus.result) c.two-numbers-in-Sub.new.notes) (sym i.is) (pair_goes n k (in_scope v) differences i.a i.b _ (number_shown (spare v) c.minus.result) c.minus.ensures e.0, e.1, tt)
+    let e = c.in_ok-x-in-Sub.ensures (n + 1) (o + 1) i.a i.b first second in
+    subst (λ (u : NumberTree). NumberDrafted k v n o u c.args.notes.now (Ok c.minus.result) c.two_numbers-in-Sub.new.notes) (sym i.is) (pair_goes n k (in_scope v) differences i.a i.b _ (number_shown (spare v) c.minus.result) c.minus.ensures e.0, e.1, tt)
 
-pub draft-number-two-numbers-requires-in-Least : goal.draft-number-two-numbers-requires-in-Least
-draft-number-two-numbers-requires-in-Least t c =
+pub draft_number-two_numbers-requires-in-Least : goal.draft_number-two_numbers-requires-in-Least
+draft_number-two_numbers-requires-in-Least t c =
     let i = of_least c.requires.is.3.form c.in-Least.left c.in-Least.right (c.in-Least.ensures.value no_entry) c.in-Least.ensures.stands in
     let s = small_two least (spare c.args.scope.now) _ i.a i.b i.is c.requires.is.3.small c.requires.is.3.shallow (λ h. h) refl in
     let first = part c.args.scope.now i.first s.first s.first_depth in
     let second = part c.args.scope.now i.second s.second s.second_depth in
     (omega (arith, i.first_below, i.second_below, c.decreases), (c.requires.sound, (c.requires.places, (c.requires.is.0 + 1, c.requires.is.1 + 1, i.a, i.b, first, second))))
 
-pub draft-number-returns-in-err-x-3 : goal.draft-number-returns-in-err-x-3
-draft-number-returns-in-err-x-3 t c =
-    let p = err_from_is_err_and c.from-residual-in-err-x-3.result c.from-residual-in-err-x-3.ensures.1 in
+pub draft_number-returns-in_err-x-in-Least : goal.draft_number-returns-in_err-x-in-Least
+draft_number-returns-in_err-x-in-Least t c =
+    let p = err_from_is_err_and c.from_residual-in_err-x-in-Least.result c.from_residual-in_err-x-in-Least.ensures.1 in
     rw (p.1, p.2)
     (λ n o tr at.
     let k = c.args.catalogue.now in
@@ -322,19 +322,19 @@ draft-number-returns-in-err-x-3 t c =
     let s = small_two least (spare c.args.scope.now) _ i.a i.b i.is at.small at.shallow (λ h. h) refl in
     let first = part c.args.scope.now i.first s.first s.first_depth in
     let second = part c.args.scope.now i.second s.second s.second_depth in
-    ap (number_typed n k rs) i.is ∙ pair_stops n k rs lesser i.a i.b _ (c.in-err-x-3.ensures (n + 1) (o + 1) i.a i.b first second))
+    ap (number_typed n k rs) i.is ∙ pair_stops n k rs lesser i.a i.b _ (c.in_err-x-in-Least.ensures (n + 1) (o + 1) i.a i.b first second))
 
-pub draft-number-least-requires : goal.draft-number-least-requires
-draft-number-least-requires t c =
+pub draft_number-least-requires : goal.draft_number-least-requires
+draft_number-least-requires t c =
     let i = of_least c.requires.is.3.form c.in-Least.left c.in-Least.right (c.in-Least.ensures.value no_entry) c.in-Least.ensures.stands in
     let s = small_two least (spare c.args.scope.now) _ i.a i.b i.is c.requires.is.3.small c.requires.is.3.shallow (λ h. h) refl in
     let first = part c.args.scope.now i.first s.first s.first_depth in
     let second = part c.args.scope.now i.second s.second s.second_depth in
-    let e = c.in-ok-x-3.ensures (c.requires.is.0 + 1) (c.requires.is.1 + 1) i.a i.b first second in
+    let e = c.in_ok-x-in-Least.ensures (c.requires.is.0 + 1) (c.requires.is.1 + 1) i.a i.b first second in
     record { first = e.2.0; second = e.2.1 }
 
-pub draft-number-returns-in-ok-x-3 : goal.draft-number-returns-in-ok-x-3
-draft-number-returns-in-ok-x-3 t c =
+pub draft_number-returns-in_ok-x-in-Least : goal.draft_number-returns-in_ok-x-in-Least
+draft_number-returns-in_ok-x-in-Least t c =
     λ n o tr at.
     let k = c.args.catalogue.now in
     let v = c.args.scope.now in
@@ -342,20 +342,20 @@ draft-number-returns-in-ok-x-3 t c =
     let s = small_two least (spare c.args.scope.now) _ i.a i.b i.is at.small at.shallow (λ h. h) refl in
     let first = part c.args.scope.now i.first s.first s.first_depth in
     let second = part c.args.scope.now i.second s.second s.second_depth in
-    let e = c.in-ok-x-3.ensures (n + 1) (o + 1) i.a i.b first second in
-    subst (λ (u : NumberTree). NumberDrafted k v n o u c.args.notes.now (Ok c.least.result) c.two-numbers-in-Least.new.notes) (sym i.is) (pair_goes n k (in_scope v) lesser i.a i.b _ (number_shown (spare v) c.least.result) c.least.ensures e.0, e.1, tt)
+    let e = c.in_ok-x-in-Least.ensures (n + 1) (o + 1) i.a i.b first second in
+    subst (λ (u : NumberTree). NumberDrafted k v n o u c.args.notes.now (Ok c.least.result) c.two_numbers-in-Least.new.notes) (sym i.is) (pair_goes n k (in_scope v) lesser i.a i.b _ (number_shown (spare v) c.least.result) c.least.ensures e.0, e.1, tt)
 
-pub draft-number-two-numbers-requires-in-Most : goal.draft-number-two-numbers-requires-in-Most
-draft-number-two-numbers-requires-in-Most t c =
+pub draft_number-two_numbers-requires-in-Most : goal.draft_number-two_numbers-requires-in-Most
+draft_number-two_numbers-requires-in-Most t c =
     let i = of_most c.requires.is.3.form c.in-Most.left c.in-Most.right (c.in-Most.ensures.value no_entry) c.in-Most.ensures.stands in
     let s = small_two most (spare c.args.scope.now) _ i.a i.b i.is c.requires.is.3.small c.requires.is.3.shallow (λ h. h) refl in
     let first = part c.args.scope.now i.first s.first s.first_depth in
     let second = part c.args.scope.now i.second s.second s.second_depth in
     (omega (arith, i.first_below, i.second_below, c.decreases), (c.requires.sound, (c.requires.places, (c.requires.is.0 + 1, c.requires.is.1 + 1, i.a, i.b, first, second))))
 
-pub draft-number-returns-in-err-x-4 : goal.draft-number-returns-in-err-x-4
-draft-number-returns-in-err-x-4 t c =
-    let p = err_from_is_err_and c.from-residual-in-err-x-4.result c.from-residual-in-err-x-4.ensures.1 in
+pub draft_number-returns-in_err-x-in-Most : goal.draft_number-returns-in_err-x-in-Most
+draft_number-returns-in_err-x-in-Most t c =
+    let p = err_from_is_err_and c.from_residual-in_err-x-in-Most.result c.from_residual-in_err-x-in-Most.ensures.1 in
     rw (p.1, p.2)
     (λ n o tr at.
     let k = c.args.catalogue.now in
@@ -364,19 +364,19 @@ draft-number-returns-in-err-x-4 t c =
     let s = small_two most (spare c.args.scope.now) _ i.a i.b i.is at.small at.shallow (λ h. h) refl in
     let first = part c.args.scope.now i.first s.first s.first_depth in
     let second = part c.args.scope.now i.second s.second s.second_depth in
-    ap (number_typed n k rs) i.is ∙ pair_stops n k rs greater i.a i.b _ (c.in-err-x-4.ensures (n + 1) (o + 1) i.a i.b first second))
+    ap (number_typed n k rs) i.is ∙ pair_stops n k rs greater i.a i.b _ (c.in_err-x-in-Most.ensures (n + 1) (o + 1) i.a i.b first second))
 
-pub draft-number-most-requires : goal.draft-number-most-requires
-draft-number-most-requires t c =
+pub draft_number-most-requires : goal.draft_number-most-requires
+draft_number-most-requires t c =
     let i = of_most c.requires.is.3.form c.in-Most.left c.in-Most.right (c.in-Most.ensures.value no_entry) c.in-Most.ensures.stands in
     let s = small_two most (spare c.args.scope.now) _ i.a i.b i.is c.requires.is.3.small c.requires.is.3.shallow (λ h. h) refl in
     let first = part c.args.scope.now i.first s.first s.first_depth in
     let second = part c.args.scope.now i.second s.second s.second_depth in
-    let e = c.in-ok-x-4.ensures (c.requires.is.0 + 1) (c.requires.is.1 + 1) i.a i.b first second in
+    let e = c.in_ok-x-in-Most.ensures (c.requires.is.0 + 1) (c.requires.is.1 + 1) i.a i.b first second in
     record { first = e.2.0; second = e.2.1 }
 
-pub draft-number-returns-in-ok-x-4 : goal.draft-number-returns-in-ok-x-4
-draft-number-returns-in-ok-x-4 t c =
+pub draft_number-returns-in_ok-x-in-Most : goal.draft_number-returns-in_ok-x-in-Most
+draft_number-returns-in_ok-x-in-Most t c =
     λ n o tr at.
     let k = c.args.catalogue.now in
     let v = c.args.scope.now in
@@ -384,20 +384,20 @@ draft-number-returns-in-ok-x-4 t c =
     let s = small_two most (spare c.args.scope.now) _ i.a i.b i.is at.small at.shallow (λ h. h) refl in
     let first = part c.args.scope.now i.first s.first s.first_depth in
     let second = part c.args.scope.now i.second s.second s.second_depth in
-    let e = c.in-ok-x-4.ensures (n + 1) (o + 1) i.a i.b first second in
-    subst (λ (u : NumberTree). NumberDrafted k v n o u c.args.notes.now (Ok c.most.result) c.two-numbers-in-Most.new.notes) (sym i.is) (pair_goes n k (in_scope v) greater i.a i.b _ (number_shown (spare v) c.most.result) c.most.ensures e.0, e.1, tt)
+    let e = c.in_ok-x-in-Most.ensures (n + 1) (o + 1) i.a i.b first second in
+    subst (λ (u : NumberTree). NumberDrafted k v n o u c.args.notes.now (Ok c.most.result) c.two_numbers-in-Most.new.notes) (sym i.is) (pair_goes n k (in_scope v) greater i.a i.b _ (number_shown (spare v) c.most.result) c.most.ensures e.0, e.1, tt)
 
-pub draft-number-number-requires : goal.draft-number-number-requires
-draft-number-number-requires t c =
+pub draft_number-number-requires : goal.draft_number-number-requires
+draft_number-number-requires t c =
     let i = of_scale c.requires.is.3.form c.in-Scale.factor c.in-Scale.inner (c.in-Scale.ensures.value no_entry) c.in-Scale.ensures.stands in
     let small = subst (NumbersWithin literal_bound) i.is c.requires.is.3.small in
     let deep = subst (λ (u : NumberTree). depth u ≤ spare c.args.scope.now) i.is c.requires.is.3.shallow in
     let first = part c.args.scope.now i.first (small_one i.a small.1) (omega arith) in
     (omega (arith, i.first_below, c.decreases), (c.requires.sound, (c.requires.places, (c.requires.is.0 + 1, c.requires.is.1 + 1, i.a, first))))
 
-pub draft-number-returns-in-err-x-5 : goal.draft-number-returns-in-err-x-5
-draft-number-returns-in-err-x-5 t c =
-    let p = err_from_is_err_and c.from-residual-in-err-x-5.result c.from-residual-in-err-x-5.ensures.1 in
+pub draft_number-returns-in_err-x-in-Scale : goal.draft_number-returns-in_err-x-in-Scale
+draft_number-returns-in_err-x-in-Scale t c =
+    let p = err_from_is_err_and c.from_residual-in_err-x-in-Scale.result c.from_residual-in_err-x-in-Scale.ensures.1 in
     rw (p.1, p.2)
     (λ n o tr at.
     let k = c.args.catalogue.now in
@@ -406,20 +406,20 @@ draft-number-returns-in-err-x-5 t c =
     let small = subst (NumbersWithin literal_bound) i.is at.small in
     let deep = subst (λ (u : NumberTree). depth u ≤ spare c.args.scope.now) i.is at.shallow in
     let first = part c.args.scope.now i.first (small_one i.a small.1) (omega arith) in
-    ap (number_typed n k rs) i.is ∙ scale_stops n k rs i.a c.in-Scale.factor _ (c.in-err-x-5.ensures (n + 1) (o + 1) i.a first))
+    ap (number_typed n k rs) i.is ∙ scale_stops n k rs i.a c.in-Scale.factor _ (c.in_err-x-in-Scale.ensures (n + 1) (o + 1) i.a first))
 
-pub draft-number-scaled-requires : goal.draft-number-scaled-requires
-draft-number-scaled-requires t c =
+pub draft_number-scaled-requires : goal.draft_number-scaled-requires
+draft_number-scaled-requires t c =
     let i = of_scale c.requires.is.3.form c.in-Scale.factor c.in-Scale.inner (c.in-Scale.ensures.value no_entry) c.in-Scale.ensures.stands in
     let small = subst (NumbersWithin literal_bound) i.is c.requires.is.3.small in
     let deep = subst (λ (u : NumberTree). depth u ≤ spare c.args.scope.now) i.is c.requires.is.3.shallow in
     let first = part c.args.scope.now i.first (small_one i.a small.1) (omega arith) in
     let near : nat_abs c.in-Scale.factor ≤ literal_bound = small.0 in
     let back = to_z-of_z w64 c.in-Scale.factor (search rules) in
-    record { factor = omega (arith, ap nat_abs back); good = (c.in-ok-x-5.ensures (c.requires.is.0 + 1) (c.requires.is.1 + 1) i.a first).2 }
+    record { factor = omega (arith, ap nat_abs back); good = (c.in_ok-x-in-Scale.ensures (c.requires.is.0 + 1) (c.requires.is.1 + 1) i.a first).2 }
 
-pub draft-number-returns-in-ok-x-5 : goal.draft-number-returns-in-ok-x-5
-draft-number-returns-in-ok-x-5 t c =
+pub draft_number-returns-in_ok-x-in-Scale : goal.draft_number-returns-in_ok-x-in-Scale
+draft_number-returns-in_ok-x-in-Scale t c =
     λ n o tr at.
     let k = c.args.catalogue.now in
     let v = c.args.scope.now in
@@ -427,21 +427,21 @@ draft-number-returns-in-ok-x-5 t c =
     let small = subst (NumbersWithin literal_bound) i.is at.small in
     let deep = subst (λ (u : NumberTree). depth u ≤ spare c.args.scope.now) i.is at.shallow in
     let first = part c.args.scope.now i.first (small_one i.a small.1) (omega arith) in
-    let e = c.in-ok-x-5.ensures (n + 1) (o + 1) i.a first in
-    let x = number_shown (spare v) c.in-ok-x-5.x in
+    let e = c.in_ok-x-in-Scale.ensures (n + 1) (o + 1) i.a first in
+    let x = number_shown (spare v) c.in_ok-x-in-Scale.x in
     subst (λ (u : NumberTree). NumberDrafted k v n o u c.args.notes.now (Ok c.scaled.result) c.number.new.notes) (sym i.is) (scale_goes n k (in_scope v) i.a c.in-Scale.factor x (number_shown (spare v) c.scaled.result) (c.scaled.ensures ∙ ap (λ (z : ℤ). multiple z x) (to_z-of_z w64 c.in-Scale.factor (search rules))) e.0, e.1, tt)
 
-pub draft-number-number-requires-in-Clip : goal.draft-number-number-requires-in-Clip
-draft-number-number-requires-in-Clip t c =
+pub draft_number-number-requires-in-Clip : goal.draft_number-number-requires-in-Clip
+draft_number-number-requires-in-Clip t c =
     let i = of_clip c.requires.is.3.form c.in-Clip.low c.in-Clip.high c.in-Clip.inner (c.in-Clip.ensures.value no_entry) c.in-Clip.ensures.stands in
     let small = subst (NumbersWithin literal_bound) i.is c.requires.is.3.small in
     let deep = subst (λ (u : NumberTree). depth u ≤ spare c.args.scope.now) i.is c.requires.is.3.shallow in
     let first = part c.args.scope.now i.first (small_one i.a small.1.1) (omega arith) in
     (omega (arith, i.first_below, c.decreases), (c.requires.sound, (c.requires.places, (c.requires.is.0 + 1, c.requires.is.1 + 1, i.a, first))))
 
-pub draft-number-returns-in-err-x-6 : goal.draft-number-returns-in-err-x-6
-draft-number-returns-in-err-x-6 t c =
-    let p = err_from_is_err_and c.from-residual-in-err-x-6.result c.from-residual-in-err-x-6.ensures.1 in
+pub draft_number-returns-in_err-x-in-Clip : goal.draft_number-returns-in_err-x-in-Clip
+draft_number-returns-in_err-x-in-Clip t c =
+    let p = err_from_is_err_and c.from_residual-in_err-x-in-Clip.result c.from_residual-in_err-x-in-Clip.ensures.1 in
     rw (p.1, p.2)
     (λ n o tr at.
     let k = c.args.catalogue.now in
@@ -450,10 +450,10 @@ draft-number-returns-in-err-x-6 t c =
     let small = subst (NumbersWithin literal_bound) i.is at.small in
     let deep = subst (λ (u : NumberTree). depth u ≤ spare c.args.scope.now) i.is at.shallow in
     let first = part c.args.scope.now i.first (small_one i.a small.1.1) (omega arith) in
-    ap (number_typed n k rs) i.is ∙ clip_stops n k rs i.a c.in-Clip.low c.in-Clip.high _ (c.in-err-x-6.ensures (n + 1) (o + 1) i.a first))
+    ap (number_typed n k rs) i.is ∙ clip_stops n k rs i.a c.in-Clip.low c.in-Clip.high _ (c.in_err-x-in-Clip.ensures (n + 1) (o + 1) i.a first))
 
-pub draft-number-returns-in-ok-x-6 : goal.draft-number-returns-in-ok-x-6
-draft-number-returns-in-ok-x-6 t c =
+pub draft_number-returns-in_ok-x-in-Clip : goal.draft_number-returns-in_ok-x-in-Clip
+draft_number-returns-in_ok-x-in-Clip t c =
     λ n o tr at.
     let k = c.args.catalogue.now in
     let v = c.args.scope.now in
@@ -463,24 +463,24 @@ draft-number-returns-in-ok-x-6 t c =
     let first = part c.args.scope.now i.first (small_one i.a small.1.1) (omega arith) in
     let lo = c.in-Clip.low in
     let hi = c.in-Clip.high in
-    let e = c.in-ok-x-6.ensures (n + 1) (o + 1) i.a first in
-    let x = number_shown (spare v) c.in-ok-x-6.x in
-    let line = ap (λ (y : Entry). y.line) c.entry-at-line.ensures ∙ (opens tr c.args.entries.now c.args.at n o at.form.lined).line in
-    let value = c.clipped.ensures (spare v) ∙ ap₂ (λ (p q : ℤ). settle (scope_rule c.entry-at-line.result.line (le_z p q)) (cut p q x)) (to_z-of_z w64 lo (search rules)) (to_z-of_z w64 hi (search rules)) ∙ ap (λ (l : ℕ). settle (scope_rule l (le_z lo hi)) (cut lo hi x)) line in
+    let e = c.in_ok-x-in-Clip.ensures (n + 1) (o + 1) i.a first in
+    let x = number_shown (spare v) c.in_ok-x-in-Clip.x in
+    let line = ap (λ (y : Entry). y.line) c.entry_at-line.ensures ∙ (opens tr c.args.entries.now c.args.at n o at.form.lined).line in
+    let value = c.clipped.ensures (spare v) ∙ ap₂ (λ (p q : ℤ). settle (scope_rule c.entry_at-line.result.line (le_z p q)) (cut p q x)) (to_z-of_z w64 lo (search rules)) (to_z-of_z w64 hi (search rules)) ∙ ap (λ (l : ℕ). settle (scope_rule l (le_z lo hi)) (cut lo hi x)) line in
     subst (λ (u : NumberTree). NumberDrafted k v n o u c.args.notes.now c.clipped.result c.number-in-Clip.new.notes) (sym i.is)
     (subst (λ (s : Result NumberType Refusal). Drafted (number_shown (spare v)) (number_rule n) (λ _. Unit {0}) s c.args.notes.now (o + 1) (number_notes (n + 1) k (in_scope v) i.a) c.clipped.result c.number-in-Clip.new.notes) (sym (clip_goes n k (in_scope v) i.a lo hi x e.0))
     (drafted (number_shown (spare v)) (number_rule n) n (le_z lo hi) (cut lo hi x) c.args.notes.now (o + 1) (number_notes (n + 1) k (in_scope v) i.a) c.clipped.result c.number-in-Clip.new.notes value e.1))
 
-pub draft-number-number-requires-in-Let : goal.draft-number-number-requires-in-Let
-draft-number-number-requires-in-Let t c =
+pub draft_number-number-requires-in-Let : goal.draft_number-number-requires-in-Let
+draft_number-number-requires-in-Let t c =
     let i = of_let c.requires.is.3.form c.in-Let.bound c.in-Let.body (c.in-Let.ensures.value no_entry) c.in-Let.ensures.stands in
     let s = small_two let_in (spare c.args.scope.now) _ i.a i.b i.is c.requires.is.3.small c.requires.is.3.shallow (λ h. h) refl in
     let first = part c.args.scope.now i.first s.first s.first_depth in
     (omega (arith, i.first_below, c.decreases), (c.requires.sound, (c.requires.places, (c.requires.is.0 + 1, c.requires.is.1 + 1, i.a, first))))
 
-pub draft-number-returns-in-err-x-7 : goal.draft-number-returns-in-err-x-7
-draft-number-returns-in-err-x-7 t c =
-    let p = err_from_is_err_and c.from-residual-in-err-x-7.result c.from-residual-in-err-x-7.ensures.1 in
+pub draft_number-returns-in_err-x-in-Let : goal.draft_number-returns-in_err-x-in-Let
+draft_number-returns-in_err-x-in-Let t c =
+    let p = err_from_is_err_and c.from_residual-in_err-x-in-Let.result c.from_residual-in_err-x-in-Let.ensures.1 in
     rw (p.1, p.2)
     (λ n o tr at.
     let k = c.args.catalogue.now in
@@ -488,25 +488,25 @@ draft-number-returns-in-err-x-7 t c =
     let i = of_let at.form c.in-Let.bound c.in-Let.body (c.in-Let.ensures.value no_entry) c.in-Let.ensures.stands in
     let s = small_two let_in (spare c.args.scope.now) _ i.a i.b i.is at.small at.shallow (λ h. h) refl in
     let first = part c.args.scope.now i.first s.first s.first_depth in
-    ap (number_typed n k rs) i.is ∙ let_stops n k rs i.a i.b _ (c.in-err-x-7.ensures (n + 1) (o + 1) i.a first))
+    ap (number_typed n k rs) i.is ∙ let_stops n k rs i.a i.b _ (c.in_err-x-in-Let.ensures (n + 1) (o + 1) i.a first))
 
-pub draft-number-with-inner-requires : goal.draft-number-with-inner-requires
-draft-number-with-inner-requires t c =
+pub draft_number-with-inner-requires : goal.draft_number-with-inner-requires
+draft_number-with-inner-requires t c =
     let i = of_let c.requires.is.3.form c.in-Let.bound c.in-Let.body (c.in-Let.ensures.value no_entry) c.in-Let.ensures.stands in
     let s = small_two let_in (spare c.args.scope.now) _ i.a i.b i.is c.requires.is.3.small c.requires.is.3.shallow (λ h. h) refl in
     omega (arith, s.first_depth)
 
-pub draft-number-number-requires-in-Let-2 : goal.draft-number-number-requires-in-Let-2
-draft-number-number-requires-in-Let-2 t c =
+pub draft_number-number-requires-in-Let-2 : goal.draft_number-number-requires-in-Let-2
+draft_number-number-requires-in-Let-2 t c =
     let i = of_let c.requires.is.3.form c.in-Let.bound c.in-Let.body (c.in-Let.ensures.value no_entry) c.in-Let.ensures.stands in
     let s = small_two let_in (spare c.args.scope.now) _ i.a i.b i.is c.requires.is.3.small c.requires.is.3.shallow (λ h. h) refl in
     let first = part c.args.scope.now i.first s.first s.first_depth in
     let second = inner_part c.args.scope.now c.with-inner.result i.second s.second s.second_depth c.with-inner.ensures.spare in
     (omega (arith, i.second_below, c.decreases), (c.requires.sound, (omega (arith, c.requires.places), (past (c.requires.is.0 + 1) i.a, c.requires.is.1 + 1 + size i.a, i.b, second))))
 
-pub draft-number-returns-in-err-y : goal.draft-number-returns-in-err-y
-draft-number-returns-in-err-y t c =
-    let p = err_from_is_err_and c.from-residual-in-err-y.result c.from-residual-in-err-y.ensures.1 in
+pub draft_number-returns-in_err-y-in-Let : goal.draft_number-returns-in_err-y-in-Let
+draft_number-returns-in_err-y-in-Let t c =
+    let p = err_from_is_err_and c.from_residual-in_err-y-in-Let.result c.from_residual-in_err-y-in-Let.ensures.1 in
     rw (p.1, p.2)
     (λ n o tr at.
     let k = c.args.catalogue.now in
@@ -515,20 +515,20 @@ draft-number-returns-in-err-y t c =
     let s = small_two let_in (spare c.args.scope.now) _ i.a i.b i.is at.small at.shallow (λ h. h) refl in
     let first = part c.args.scope.now i.first s.first s.first_depth in
     let second = inner_part c.args.scope.now c.with-inner.result i.second s.second s.second_depth c.with-inner.ensures.spare in
-    ap (number_typed n k rs) i.is ∙ let_stops_later n k rs i.a i.b _ _ (c.in-ok-x-7.ensures (n + 1) (o + 1) i.a first).0 (ap (λ (l : List Range). number_typed (past (n + 1) i.a) k l i.b) (sym c.with-inner.ensures.ranges) ∙ c.in-err-y.ensures (past (n + 1) i.a) (o + 1 + size i.a) i.b second))
+    ap (number_typed n k rs) i.is ∙ let_stops_later n k rs i.a i.b _ _ (c.in_ok-x-in-Let.ensures (n + 1) (o + 1) i.a first).0 (ap (λ (l : List Range). number_typed (past (n + 1) i.a) k l i.b) (sym c.with-inner.ensures.ranges) ∙ c.in_err-y-in-Let.ensures (past (n + 1) i.a) (o + 1 + size i.a) i.b second))
 
-pub draft-number-named-requires : goal.draft-number-named-requires
-draft-number-named-requires t c =
+pub draft_number-named-requires : goal.draft_number-named-requires
+draft_number-named-requires t c =
     let i = of_let c.requires.is.3.form c.in-Let.bound c.in-Let.body (c.in-Let.ensures.value no_entry) c.in-Let.ensures.stands in
     let s = small_two let_in (spare c.args.scope.now) _ i.a i.b i.is c.requires.is.3.small c.requires.is.3.shallow (λ h. h) refl in
     let first = part c.args.scope.now i.first s.first s.first_depth in
     let second = inner_part c.args.scope.now c.with-inner.result i.second s.second s.second_depth c.with-inner.ensures.spare in
     let inner : spare c.with-inner.result ≡ spare c.args.scope.now - 1 = omega (arith, c.with-inner.ensures.spare) in
-    let y = (c.in-ok-y.ensures (past (c.requires.is.0 + 1) i.a) (c.requires.is.1 + 1 + size i.a) i.b second).2 in
-    record { room = omega (arith, s.first_depth); bound = (c.in-ok-x-7.ensures (c.requires.is.0 + 1) (c.requires.is.1 + 1) i.a first).2; body = subst (λ (j : ℕ). NumberGood j c.in-ok-y.y) inner y }
+    let y = (c.in_ok-y-in-Let.ensures (past (c.requires.is.0 + 1) i.a) (c.requires.is.1 + 1 + size i.a) i.b second).2 in
+    record { room = omega (arith, s.first_depth); bound = (c.in_ok-x-in-Let.ensures (c.requires.is.0 + 1) (c.requires.is.1 + 1) i.a first).2; body = subst (λ (j : ℕ). NumberGood j c.in_ok-y-in-Let.y) inner y }
 
-pub draft-number-returns-in-ok-y : goal.draft-number-returns-in-ok-y
-draft-number-returns-in-ok-y t c =
+pub draft_number-returns-in_ok-y-in-Let : goal.draft_number-returns-in_ok-y-in-Let
+draft_number-returns-in_ok-y-in-Let t c =
     λ n o tr at.
     let k = c.args.catalogue.now in
     let v = c.args.scope.now in
@@ -538,12 +538,12 @@ draft-number-returns-in-ok-y t c =
     let first = part c.args.scope.now i.first s.first s.first_depth in
     let second = inner_part c.args.scope.now c.with-inner.result i.second s.second s.second_depth c.with-inner.ensures.spare in
     let inner : spare c.with-inner.result ≡ spare v - 1 = omega (arith, c.with-inner.ensures.spare) in
-    let x = c.in-ok-x-7.ensures (n + 1) (o + 1) i.a first in
-    let y = c.in-ok-y.ensures (past (n + 1) i.a) (o + 1 + size i.a) i.b second in
-    let typed = (ap (λ (l : List Range). number_typed (past (n + 1) i.a) k l i.b) (sym c.with-inner.ensures.ranges) ∙ y.0 ∙ ap (λ (j : ℕ). Ok (number_shown j c.in-ok-y.y)) inner) in
+    let x = c.in_ok-x-in-Let.ensures (n + 1) (o + 1) i.a first in
+    let y = c.in_ok-y-in-Let.ensures (past (n + 1) i.a) (o + 1 + size i.a) i.b second in
+    let typed = (ap (λ (l : List Range). number_typed (past (n + 1) i.a) k l i.b) (sym c.with-inner.ensures.ranges) ∙ y.0 ∙ ap (λ (j : ℕ). Ok (number_shown j c.in_ok-y-in-Let.y)) inner) in
     let here : o + 1 + size i.a ≡ o + 1 + length (number_notes (n + 1) k rs i.a) = ap (λ (j : ℕ). o + 1 + j) (sym (number_count i.a (n + 1) k rs)) in
     let ys = λ (l : List Range). number_notes (past (n + 1) i.a) k l i.b in
     let scope : in_scope c.with-inner.result ≡ range_in (number_typed (n + 1) k rs i.a) ∷ rs = c.with-inner.ensures.ranges ∙ ap (λ (r : Result NumberType Refusal). range_in r ∷ rs) (sym x.0) in
     let noted_now = noted_both c.args.notes.now (o + 1) (o + 1 + size i.a) (number_notes (n + 1) k rs i.a) (ys (in_scope c.with-inner.result)) _ _ x.1 y.1 here (omega (arith, i.first.room, c.requires.places)) ∙ ap (λ (l : List Range). noted_at c.args.notes.now (o + 1) (number_notes (n + 1) k rs i.a ++ ys l)) scope in
     subst (λ (u : NumberTree). NumberDrafted k v n o u c.args.notes.now (Ok c.named.result) c.number-in-Let-2.new.notes) (sym i.is)
-    (let_goes n k rs i.a i.b (number_shown (spare v) c.in-ok-x-7.x) (number_shown (spare v - 1) c.in-ok-y.y) (number_shown (spare v) c.named.result) c.named.ensures x.0 typed, noted_now, tt)
+    (let_goes n k rs i.a i.b (number_shown (spare v) c.in_ok-x-in-Let.x) (number_shown (spare v - 1) c.in_ok-y-in-Let.y) (number_shown (spare v) c.named.result) c.named.ensures x.0 typed, noted_now, tt)

@@ -2,11 +2,11 @@
 use Rattle.std.proofs.Common.{◌+◌, ◌*◌, max}
 use Rattle.typing.proofs.numbers.+draft_number_number_two_numbers.Given as goal
 
-abbrev pub decreases-draft-number : goal.decreases-draft-number
-decreases-draft-number l = 3 * l.at
+abbrev pub decreases-draft_number : goal.decreases-draft_number
+decreases-draft_number l = 3 * l.at
 
 abbrev pub decreases-number : goal.decreases-number
 decreases-number l = 3 * l.at + 1
 
-abbrev pub decreases-two-numbers : goal.decreases-two-numbers
-decreases-two-numbers l = 3 * max l.left l.right + 2
+abbrev pub decreases-two_numbers : goal.decreases-two_numbers
+decreases-two_numbers l = 3 * max l.left l.right + 2

@@ -26,278 +26,278 @@ use Rattle.typing.proofs.TermSteps.{behind, condition_own, condition_some, eithe
 use Rattle.typing.proofs.Words.{of_either, of_equal, of_leaf, of_less, of_not, of_pick, of_plus, of_times}
 use Rattle.typing.proofs.terms.+condition_condition_parts_draft_term_term_two_terms.Goals as goal
 
-pub term-entry-at-entry-requires : goal.term-entry-at-entry-requires
-term-entry-at-entry-requires t c = within c.requires.is.3
+pub term-entry_at-entry-requires : goal.term-entry_at-entry-requires
+term-entry_at-entry-requires t c = within c.requires.is.3
 
-pub term-returns-in-err-settle-term : goal.term-returns-in-err-settle-term
-term-returns-in-err-settle-term t c =
-    let p = err_from_is_err_and c.from-residual-in-err-settle-term.result c.from-residual-in-err-settle-term.ensures.1 in
+pub term-returns-in_err-settle_term : goal.term-returns-in_err-settle_term
+term-returns-in_err-settle_term t c =
+    let p = err_from_is_err_and c.from_residual-in_err-settle_term.result c.from_residual-in_err-settle_term.ensures.1 in
     rw (p.1, p.2)
     (λ n o tr at.
-    let x = c.in-ok-range.range in
-    let line = ap (λ (e : Entry). e.line) c.entry-at-entry.ensures ∙ (opens tr c.args.entries.now c.args.at n o at.lined).line in
-    (c.in-ok-range.ensures n o tr at).0 ∙ ap (λ (r : Option Refusal). settle r x) (sym (c.in-err-settle-term.ensures ∙ ap (λ (i : ℕ). term_rule i x) line)))
+    let x = c.in_ok-range.range in
+    let line = ap (λ (e : Entry). e.line) c.entry_at-entry.ensures ∙ (opens tr c.args.entries.now c.args.at n o at.lined).line in
+    (c.in_ok-range.ensures n o tr at).0 ∙ ap (λ (r : Option Refusal). settle r x) (sym (c.in_err-settle_term.ensures ∙ ap (λ (i : ℕ). term_rule i x) line)))
 
-pub term-offset-bounds-notes-entry : goal.term-offset-bounds-notes-entry
-term-offset-bounds-notes-entry t c =
+pub term-offset_bounds-notes-entry : goal.term-offset_bounds-notes-entry
+term-offset_bounds-notes-entry t c =
     let k = c.requires.is.3 in
-    omega (arith, k.room, ap (λ (e : Entry). e.order) c.entry-at-entry.ensures, (opens c.requires.is.2 c.args.entries.now c.args.at c.requires.is.0 c.requires.is.1 k.lined).order)
+    omega (arith, k.room, ap (λ (e : Entry). e.order) c.entry_at-entry.ensures, (opens c.requires.is.2 c.args.entries.now c.args.at c.requires.is.0 c.requires.is.1 k.lined).order)
 
 pub term-bounds-notes-entry : goal.term-bounds-notes-entry
 term-bounds-notes-entry t c =
     let k = c.requires.is.3 in
-    omega (arith, term_some c.requires.is.2, k.room, c.requires.places, ap (λ (e : Entry). e.order) c.entry-at-entry.ensures, (opens c.requires.is.2 c.args.entries.now c.args.at c.requires.is.0 c.requires.is.1 k.lined).order)
+    omega (arith, term_some c.requires.is.2, k.room, c.requires.places, ap (λ (e : Entry). e.order) c.entry_at-entry.ensures, (opens c.requires.is.2 c.args.entries.now c.args.at c.requires.is.0 c.requires.is.1 k.lined).order)
 
 pub term-returns : goal.term-returns
 term-returns t c =
     λ n o tr at.
     let cs = columns_of c.args.shape.now in
-    let x = c.in-ok-range.range in
-    let d = c.in-ok-range.ensures n o tr at in
+    let x = c.in_ok-range.range in
+    let d = c.in_ok-range.ensures n o tr at in
     let e = opens tr c.args.entries.now c.args.at n o at.lined in
-    let none : None ≡ term_rule n x = c.in-ok-settle-term.ensures ∙ ap (λ (i : ℕ). term_rule i x) (ap (λ (y : Entry). y.line) c.entry-at-entry.ensures ∙ e.line) in
+    let none : None ≡ term_rule n x = c.in_ok-settle_term.ensures ∙ ap (λ (i : ℕ). term_rule i x) (ap (λ (y : Entry). y.line) c.entry_at-entry.ensures ∙ e.line) in
     let ok : term_typed n cs tr ≡ Ok x = d.0 ∙ ap (λ (r : Option Refusal). settle r x) (sym none) in
     let own : term_notes n cs tr ≡ term_note x ∷ drop 1 (term_notes n cs tr) = term_own tr n cs ∙ ap (λ (r : Result Range Refusal). noted term_note r ∷ drop 1 (term_notes n cs tr)) ok in
-    (ok, noted_whole c.args.notes.now o (term_note x) (term_notes n cs tr) _ (omega (arith, term_some tr, at.room, c.requires.places)) own d.1 _ _ (ap (λ (y : Entry). y.order) c.entry-at-entry.ensures ∙ e.order) c.of-term.ensures, settled_within n x none)
+    (ok, noted_whole c.args.notes.now o (term_note x) (term_notes n cs tr) _ (omega (arith, term_some tr, at.room, c.requires.places)) own d.1 _ _ (ap (λ (y : Entry). y.order) c.entry_at-entry.ensures ∙ e.order) c.of_term.ensures, settled_within n x none)
 
-pub two-terms-returns : goal.two-terms-returns
-two-terms-returns t c =
+pub two_terms-returns : goal.two_terms-returns
+two_terms-returns t c =
     λ n o a b at bt.
     let cs = columns_of c.args.shape.now in
-    let x = c.in-ok-x.ensures n o a at in
-    let y = c.in-ok-y.ensures (past n a) (o + size a) b bt in
+    let x = c.in_ok-x.ensures n o a at in
+    let y = c.in_ok-y.ensures (past n a) (o + size a) b bt in
     let here : o + size a ≡ o + length (term_notes n cs a) = ap (λ (i : ℕ). o + i) (sym (term_count a n cs)) in
     let fits : o ≤ length c.args.notes.now = omega (arith, at.room, c.requires.places) in
-    (terms_two n cs a b c.in-ok-x.x c.in-ok-y.y x.0 y.0, y.1 ∙ ap (λ (l : List Note). noted_at l (o + size a) (term_notes (past n a) cs b)) x.1 ∙ noted_more c.args.notes.now o (o + size a) (term_notes n cs a) (term_notes (past n a) cs b) here fits, (x.2, y.2))
+    (terms_two n cs a b c.in_ok-x.x c.in_ok-y.y x.0 y.0, y.1 ∙ ap (λ (l : List Note). noted_at l (o + size a) (term_notes (past n a) cs b)) x.1 ∙ noted_more c.args.notes.now o (o + size a) (term_notes n cs a) (term_notes (past n a) cs b) here fits, (x.2, y.2))
 
-pub draft-term-form-at-requires : goal.draft-term-form-at-requires
-draft-term-form-at-requires t c = within c.requires.is.3
+pub draft_term-form_at-requires : goal.draft_term-form_at-requires
+draft_term-form_at-requires t c = within c.requires.is.3
 
-pub draft-term-entry-at-requires : goal.draft-term-entry-at-requires
-draft-term-entry-at-requires t c = within c.requires.is.3
+pub draft_term-entry_at-requires : goal.draft_term-entry_at-requires
+draft_term-entry_at-requires t c = within c.requires.is.3
 
-pub draft-term-returns-in-Col : goal.draft-term-returns-in-Col
-draft-term-returns-in-Col t c =
+pub draft_term-returns-in-Col : goal.draft_term-returns-in-Col
+draft_term-returns-in-Col t c =
     λ n o tr at.
     let cs = columns_of c.args.shape.now in
     let j = c.in-Col.column in
     let is = of_leaf at (col j) c.in-Col.ensures.stands in
-    let line = ap (λ (y : Entry). y.line) c.entry-at.ensures ∙ (opens tr c.args.entries.now c.args.at n o at.lined).line in
-    subst (λ (u : TermTree). TermDrafted c.args.shape.now n o u c.args.notes.now c.column-range.result c.args.notes.now) (sym is)
-    (drafted (λ x. x) (term_rule n) n (place (length cs) j) (column cs (index j)) c.args.notes.now (o + 1) [] c.column-range.result c.args.notes.now
-    (c.column-range.ensures ∙ ap₂ (λ (i : ℕ) (z : ℤ). settle (scope_rule i (place (length cs) z)) (column cs (index z))) line (to_z-of_z w64 j (search rules)))
+    let line = ap (λ (y : Entry). y.line) c.entry_at.ensures ∙ (opens tr c.args.entries.now c.args.at n o at.lined).line in
+    subst (λ (u : TermTree). TermDrafted c.args.shape.now n o u c.args.notes.now c.column_range.result c.args.notes.now) (sym is)
+    (drafted (λ x. x) (term_rule n) n (place (length cs) j) (column cs (index j)) c.args.notes.now (o + 1) [] c.column_range.result c.args.notes.now
+    (c.column_range.ensures ∙ ap₂ (λ (i : ℕ) (z : ℤ). settle (scope_rule i (place (length cs) z)) (column cs (index z))) line (to_z-of_z w64 j (search rules)))
     (sym (noted_none c.args.notes.now (o + 1))))
 
-pub draft-term-returns-in-Lit : goal.draft-term-returns-in-Lit
-draft-term-returns-in-Lit t c =
+pub draft_term-returns-in-Lit : goal.draft_term-returns-in-Lit
+draft_term-returns-in-Lit t c =
     λ n o tr at.
     let cs = columns_of c.args.shape.now in
     let is = of_leaf at (lit c.in-Lit.value) c.in-Lit.ensures.stands in
     subst (λ (u : TermTree). TermDrafted c.args.shape.now n o u c.args.notes.now (Ok c.point.result) c.args.notes.now) (sym is) (ap (λ (w : Range). settle (term_rule n w) w) (sym (c.point.ensures ∙ ap point (to_z-of_z w64 c.in-Lit.value (search rules)))), sym (noted_none c.args.notes.now (o + 1)), tt)
 
-pub draft-term-two-terms-requires : goal.draft-term-two-terms-requires
-draft-term-two-terms-requires t c =
+pub draft_term-two_terms-requires : goal.draft_term-two_terms-requires
+draft_term-two_terms-requires t c =
     let i = of_plus c.requires.is.3 c.in-Plus.left c.in-Plus.right (c.in-Plus.ensures.value no_entry) c.in-Plus.ensures.stands in
     (omega (arith, i.first_below, i.second_below, c.decreases), (c.requires.narrow, (c.requires.places, (c.requires.is.0 + 1, c.requires.is.1 + 1, i.a, i.b, i.first, i.second))))
 
-pub draft-term-returns-in-err-x : goal.draft-term-returns-in-err-x
-draft-term-returns-in-err-x t c =
-    let p = err_from_is_err_and c.from-residual.result c.from-residual.ensures.1 in
+pub draft_term-returns-in_err-x-in-Plus : goal.draft_term-returns-in_err-x-in-Plus
+draft_term-returns-in_err-x-in-Plus t c =
+    let p = err_from_is_err_and c.from_residual.result c.from_residual.ensures.1 in
     rw (p.1, p.2)
     (λ n o tr at.
     let cs = columns_of c.args.shape.now in
     let i = of_plus at c.in-Plus.left c.in-Plus.right (c.in-Plus.ensures.value no_entry) c.in-Plus.ensures.stands in
-    ap (term_typed n cs) i.is ∙ plus_stops n cs i.a i.b _ (c.in-err-x.ensures (n + 1) (o + 1) i.a i.b i.first i.second))
+    ap (term_typed n cs) i.is ∙ plus_stops n cs i.a i.b _ (c.in_err-x-in-Plus.ensures (n + 1) (o + 1) i.a i.b i.first i.second))
 
-pub draft-term-sums-requires : goal.draft-term-sums-requires
-draft-term-sums-requires t c =
+pub draft_term-sums-requires : goal.draft_term-sums-requires
+draft_term-sums-requires t c =
     let i = of_plus c.requires.is.3 c.in-Plus.left c.in-Plus.right (c.in-Plus.ensures.value no_entry) c.in-Plus.ensures.stands in
-    let e = c.in-ok-x.ensures (c.requires.is.0 + 1) (c.requires.is.1 + 1) i.a i.b i.first i.second in
-    record { first = wider c.in-ok-x.x e.2.0; second = wider c.in-ok-x.y e.2.1 }
+    let e = c.in_ok-x-in-Plus.ensures (c.requires.is.0 + 1) (c.requires.is.1 + 1) i.a i.b i.first i.second in
+    record { first = wider c.in_ok-x-in-Plus.x e.2.0; second = wider c.in_ok-x-in-Plus.y e.2.1 }
 
-pub draft-term-returns-in-ok-x : goal.draft-term-returns-in-ok-x
-draft-term-returns-in-ok-x t c =
+pub draft_term-returns-in_ok-x-in-Plus : goal.draft_term-returns-in_ok-x-in-Plus
+draft_term-returns-in_ok-x-in-Plus t c =
     λ n o tr at.
     let cs = columns_of c.args.shape.now in
     let i = of_plus at c.in-Plus.left c.in-Plus.right (c.in-Plus.ensures.value no_entry) c.in-Plus.ensures.stands in
-    let e = c.in-ok-x.ensures (n + 1) (o + 1) i.a i.b i.first i.second in
-    subst (λ (u : TermTree). TermDrafted c.args.shape.now n o u c.args.notes.now (Ok c.sums.result) c.two-terms.new.notes) (sym i.is) (plus_goes n cs i.a i.b _ c.sums.result c.sums.ensures e.0, e.1, tt)
+    let e = c.in_ok-x-in-Plus.ensures (n + 1) (o + 1) i.a i.b i.first i.second in
+    subst (λ (u : TermTree). TermDrafted c.args.shape.now n o u c.args.notes.now (Ok c.sums.result) c.two_terms.new.notes) (sym i.is) (plus_goes n cs i.a i.b _ c.sums.result c.sums.ensures e.0, e.1, tt)
 
-pub draft-term-two-terms-requires-in-Times : goal.draft-term-two-terms-requires-in-Times
-draft-term-two-terms-requires-in-Times t c =
+pub draft_term-two_terms-requires-in-Times : goal.draft_term-two_terms-requires-in-Times
+draft_term-two_terms-requires-in-Times t c =
     let i = of_times c.requires.is.3 c.in-Times.left c.in-Times.right (c.in-Times.ensures.value no_entry) c.in-Times.ensures.stands in
     (omega (arith, i.first_below, i.second_below, c.decreases), (c.requires.narrow, (c.requires.places, (c.requires.is.0 + 1, c.requires.is.1 + 1, i.a, i.b, i.first, i.second))))
 
-pub draft-term-returns-in-err-x-2 : goal.draft-term-returns-in-err-x-2
-draft-term-returns-in-err-x-2 t c =
-    let p = err_from_is_err_and c.from-residual-in-err-x-2.result c.from-residual-in-err-x-2.ensures.1 in
+pub draft_term-returns-in_err-x-in-Times : goal.draft_term-returns-in_err-x-in-Times
+draft_term-returns-in_err-x-in-Times t c =
+    let p = err_from_is_err_and c.from_residual-in_err-x-in-Times.result c.from_residual-in_err-x-in-Times.ensures.1 in
     rw (p.1, p.2)
     (λ n o tr at.
     let cs = columns_of c.args.shape.now in
     let i = of_times at c.in-Times.left c.in-Times.right (c.in-Times.ensures.value no_entry) c.in-Times.ensures.stands in
-    ap (term_typed n cs) i.is ∙ times_stops n cs i.a i.b _ (c.in-err-x-2.ensures (n + 1) (o + 1) i.a i.b i.first i.second))
+    ap (term_typed n cs) i.is ∙ times_stops n cs i.a i.b _ (c.in_err-x-in-Times.ensures (n + 1) (o + 1) i.a i.b i.first i.second))
 
-pub draft-term-products-requires : goal.draft-term-products-requires
-draft-term-products-requires t c =
+pub draft_term-products-requires : goal.draft_term-products-requires
+draft_term-products-requires t c =
     let i = of_times c.requires.is.3 c.in-Times.left c.in-Times.right (c.in-Times.ensures.value no_entry) c.in-Times.ensures.stands in
-    let e = c.in-ok-x-2.ensures (c.requires.is.0 + 1) (c.requires.is.1 + 1) i.a i.b i.first i.second in
+    let e = c.in_ok-x-in-Times.ensures (c.requires.is.0 + 1) (c.requires.is.1 + 1) i.a i.b i.first i.second in
     record { first = e.2.0; second = e.2.1 }
 
-pub draft-term-returns-in-ok-x-2 : goal.draft-term-returns-in-ok-x-2
-draft-term-returns-in-ok-x-2 t c =
+pub draft_term-returns-in_ok-x-in-Times : goal.draft_term-returns-in_ok-x-in-Times
+draft_term-returns-in_ok-x-in-Times t c =
     λ n o tr at.
     let cs = columns_of c.args.shape.now in
     let i = of_times at c.in-Times.left c.in-Times.right (c.in-Times.ensures.value no_entry) c.in-Times.ensures.stands in
-    let e = c.in-ok-x-2.ensures (n + 1) (o + 1) i.a i.b i.first i.second in
-    subst (λ (u : TermTree). TermDrafted c.args.shape.now n o u c.args.notes.now (Ok c.products.result) c.two-terms-in-Times.new.notes) (sym i.is) (times_goes n cs i.a i.b _ c.products.result c.products.ensures e.0, e.1, tt)
+    let e = c.in_ok-x-in-Times.ensures (n + 1) (o + 1) i.a i.b i.first i.second in
+    subst (λ (u : TermTree). TermDrafted c.args.shape.now n o u c.args.notes.now (Ok c.products.result) c.two_terms-in-Times.new.notes) (sym i.is) (times_goes n cs i.a i.b _ c.products.result c.products.ensures e.0, e.1, tt)
 
-pub draft-term-condition-requires : goal.draft-term-condition-requires
-draft-term-condition-requires t c =
+pub draft_term-condition-requires : goal.draft_term-condition-requires
+draft_term-condition-requires t c =
     let i = of_pick c.requires.is.3 c.in-Pick.test c.in-Pick.first c.in-Pick.second (c.in-Pick.ensures.value no_entry) c.in-Pick.ensures.stands in
     (omega (arith, i.first_below, c.decreases), (c.requires.narrow, (c.requires.places, (c.requires.is.0 + 1, c.requires.is.1 + 1, i.a, i.first))))
 
-pub draft-term-returns-in-err-condition : goal.draft-term-returns-in-err-condition
-draft-term-returns-in-err-condition t c =
-    let p = err_from_is_err_and c.from-residual-in-err-condition.result c.from-residual-in-err-condition.ensures.1 in
+pub draft_term-returns-in_err-condition-in-Pick : goal.draft_term-returns-in_err-condition-in-Pick
+draft_term-returns-in_err-condition-in-Pick t c =
+    let p = err_from_is_err_and c.from_residual-in_err-condition-in-Pick.result c.from_residual-in_err-condition-in-Pick.ensures.1 in
     rw (p.1, p.2)
     (λ n o tr at.
     let cs = columns_of c.args.shape.now in
     let i = of_pick at c.in-Pick.test c.in-Pick.first c.in-Pick.second (c.in-Pick.ensures.value no_entry) c.in-Pick.ensures.stands in
-    ap (term_typed n cs) i.is ∙ pick_stops n cs i.b i.c i.a _ (c.in-err-condition.ensures (n + 1) (o + 1) i.a i.first))
+    ap (term_typed n cs) i.is ∙ pick_stops n cs i.b i.c i.a _ (c.in_err-condition-in-Pick.ensures (n + 1) (o + 1) i.a i.first))
 
-pub draft-term-two-terms-requires-in-Pick : goal.draft-term-two-terms-requires-in-Pick
-draft-term-two-terms-requires-in-Pick t c =
+pub draft_term-two_terms-requires-in-Pick : goal.draft_term-two_terms-requires-in-Pick
+draft_term-two_terms-requires-in-Pick t c =
     let i = of_pick c.requires.is.3 c.in-Pick.test c.in-Pick.first c.in-Pick.second (c.in-Pick.ensures.value no_entry) c.in-Pick.ensures.stands in
     (omega (arith, i.second_below, i.third_below, c.decreases), (c.requires.narrow, (omega (arith, c.requires.places), (past (c.requires.is.0 + 1) i.a, c.requires.is.1 + 1 + size i.a, i.b, i.c, i.second, i.third))))
 
-pub draft-term-returns-in-err-x-3 : goal.draft-term-returns-in-err-x-3
-draft-term-returns-in-err-x-3 t c =
-    let p = err_from_is_err_and c.from-residual-in-err-x-3.result c.from-residual-in-err-x-3.ensures.1 in
+pub draft_term-returns-in_err-x-in-Pick : goal.draft_term-returns-in_err-x-in-Pick
+draft_term-returns-in_err-x-in-Pick t c =
+    let p = err_from_is_err_and c.from_residual-in_err-x-in-Pick.result c.from_residual-in_err-x-in-Pick.ensures.1 in
     rw (p.1, p.2)
     (λ n o tr at.
     let cs = columns_of c.args.shape.now in
     let i = of_pick at c.in-Pick.test c.in-Pick.first c.in-Pick.second (c.in-Pick.ensures.value no_entry) c.in-Pick.ensures.stands in
-    ap (term_typed n cs) i.is ∙ pick_stops_later n cs i.b i.c i.a _ _ (c.in-ok-condition.ensures (n + 1) (o + 1) i.a i.first).0 (c.in-err-x-3.ensures (past (n + 1) i.a) (o + 1 + size i.a) i.b i.c i.second i.third))
+    ap (term_typed n cs) i.is ∙ pick_stops_later n cs i.b i.c i.a _ _ (c.in_ok-condition-in-Pick.ensures (n + 1) (o + 1) i.a i.first).0 (c.in_err-x-in-Pick.ensures (past (n + 1) i.a) (o + 1 + size i.a) i.b i.c i.second i.third))
 
-pub draft-term-returns-in-ok-x-3 : goal.draft-term-returns-in-ok-x-3
-draft-term-returns-in-ok-x-3 t c =
+pub draft_term-returns-in_ok-x-in-Pick : goal.draft_term-returns-in_ok-x-in-Pick
+draft_term-returns-in_ok-x-in-Pick t c =
     λ n o tr at.
     let cs = columns_of c.args.shape.now in
     let i = of_pick at c.in-Pick.test c.in-Pick.first c.in-Pick.second (c.in-Pick.ensures.value no_entry) c.in-Pick.ensures.stands in
-    let d = c.in-ok-condition.ensures (n + 1) (o + 1) i.a i.first in
-    let e = c.in-ok-x-3.ensures (past (n + 1) i.a) (o + 1 + size i.a) i.b i.c i.second i.third in
+    let d = c.in_ok-condition-in-Pick.ensures (n + 1) (o + 1) i.a i.first in
+    let e = c.in_ok-x-in-Pick.ensures (past (n + 1) i.a) (o + 1 + size i.a) i.b i.c i.second i.third in
     let ds = condition_notes (n + 1) cs i.a in
     let es = term_notes (past (n + 1) i.a) cs i.b ++ term_notes (past (past (n + 1) i.a) i.b) cs i.c in
     let here : o + 1 + size i.a ≡ o + 1 + length ds = ap (λ (k : ℕ). o + 1 + k) (sym (condition_count i.a (n + 1) cs)) in
-    subst (λ (u : TermTree). TermDrafted c.args.shape.now n o u c.args.notes.now (Ok c.hull.result) c.two-terms-in-Pick.new.notes) (sym i.is)
+    subst (λ (u : TermTree). TermDrafted c.args.shape.now n o u c.args.notes.now (Ok c.hull.result) c.two_terms-in-Pick.new.notes) (sym i.is)
     (pick_goes n cs i.b i.c i.a _ _ c.hull.result c.hull.ensures d.0 e.0, e.1 ∙ ap (λ (l : List Note). noted_at l (o + 1 + size i.a) es) d.1 ∙ noted_more c.args.notes.now (o + 1) (o + 1 + size i.a) ds es here (omega (arith, i.first.room, c.requires.places)), tt)
 
-pub condition-entry-at-entry-requires : goal.condition-entry-at-entry-requires
-condition-entry-at-entry-requires t c = within c.requires.is.3
+pub condition-entry_at-entry-requires : goal.condition-entry_at-entry-requires
+condition-entry_at-entry-requires t c = within c.requires.is.3
 
-pub condition-offset-bounds-notes-entry : goal.condition-offset-bounds-notes-entry
-condition-offset-bounds-notes-entry t c =
+pub condition-offset_bounds-notes-entry : goal.condition-offset_bounds-notes-entry
+condition-offset_bounds-notes-entry t c =
     let k = c.requires.is.3 in
-    omega (arith, k.room, ap (λ (e : Entry). e.order) c.entry-at-entry.ensures, (opens c.requires.is.2 c.args.entries.now c.args.at c.requires.is.0 c.requires.is.1 k.lined).order)
+    omega (arith, k.room, ap (λ (e : Entry). e.order) c.entry_at-entry.ensures, (opens c.requires.is.2 c.args.entries.now c.args.at c.requires.is.0 c.requires.is.1 k.lined).order)
 
 pub condition-bounds-notes-entry : goal.condition-bounds-notes-entry
 condition-bounds-notes-entry t c =
     let k = c.requires.is.3 in
-    omega (arith, condition_some c.requires.is.2, k.room, c.requires.places, ap (λ (e : Entry). e.order) c.entry-at-entry.ensures, (opens c.requires.is.2 c.args.entries.now c.args.at c.requires.is.0 c.requires.is.1 k.lined).order)
+    omega (arith, condition_some c.requires.is.2, k.room, c.requires.places, ap (λ (e : Entry). e.order) c.entry_at-entry.ensures, (opens c.requires.is.2 c.args.entries.now c.args.at c.requires.is.0 c.requires.is.1 k.lined).order)
 
 pub condition-returns : goal.condition-returns
 condition-returns t c =
     λ n o tr at.
     let cs = columns_of c.args.shape.now in
-    let d = c.in-ok-condition-parts.ensures n o tr at in
+    let d = c.in_ok-condition_parts.ensures n o tr at in
     let e = opens tr c.args.entries.now c.args.at n o at.lined in
-    (d.0, noted_whole c.args.notes.now o condition_note (condition_notes n cs tr) _ (omega (arith, condition_some tr, at.room, c.requires.places)) (condition_own tr n cs) d.1 _ _ (ap (λ (y : Entry). y.order) c.entry-at-entry.ensures ∙ e.order) refl, tt)
+    (d.0, noted_whole c.args.notes.now o condition_note (condition_notes n cs tr) _ (omega (arith, condition_some tr, at.room, c.requires.places)) (condition_own tr n cs) d.1 _ _ (ap (λ (y : Entry). y.order) c.entry_at-entry.ensures ∙ e.order) refl, tt)
 
-pub condition-parts-form-at-requires : goal.condition-parts-form-at-requires
-condition-parts-form-at-requires t c = within c.requires.is.3
+pub condition_parts-form_at-requires : goal.condition_parts-form_at-requires
+condition_parts-form_at-requires t c = within c.requires.is.3
 
-pub condition-parts-two-terms-requires : goal.condition-parts-two-terms-requires
-condition-parts-two-terms-requires t c =
+pub condition_parts-two_terms-requires : goal.condition_parts-two_terms-requires
+condition_parts-two_terms-requires t c =
     let i = of_less c.requires.is.3 c.in-Less.left c.in-Less.right (c.in-Less.ensures.value no_entry) c.in-Less.ensures.stands in
     (omega (arith, i.first_below, i.second_below, c.decreases), (c.requires.narrow, (c.requires.places, (c.requires.is.0 + 1, c.requires.is.1 + 1, i.a, i.b, i.first, i.second))))
 
-pub condition-parts-returns-in-err-two-terms : goal.condition-parts-returns-in-err-two-terms
-condition-parts-returns-in-err-two-terms t c =
-    let p = err_from_is_err_and c.from-residual.result c.from-residual.ensures.1 in
+pub condition_parts-returns-in_err-two_terms-in-Less : goal.condition_parts-returns-in_err-two_terms-in-Less
+condition_parts-returns-in_err-two_terms-in-Less t c =
+    let p = err_from_is_err_and c.from_residual.result c.from_residual.ensures.1 in
     rw (p.1, p.2)
     (λ n o tr at.
     let cs = columns_of c.args.shape.now in
     let i = of_less at c.in-Less.left c.in-Less.right (c.in-Less.ensures.value no_entry) c.in-Less.ensures.stands in
-    ap (condition_typed n cs) i.is ∙ less_stops n cs i.a i.b _ (c.in-err-two-terms.ensures (n + 1) (o + 1) i.a i.b i.first i.second))
+    ap (condition_typed n cs) i.is ∙ less_stops n cs i.a i.b _ (c.in_err-two_terms-in-Less.ensures (n + 1) (o + 1) i.a i.b i.first i.second))
 
-pub condition-parts-returns-in-ok-two-terms : goal.condition-parts-returns-in-ok-two-terms
-condition-parts-returns-in-ok-two-terms t c =
+pub condition_parts-returns-in_ok-two_terms-in-Less : goal.condition_parts-returns-in_ok-two_terms-in-Less
+condition_parts-returns-in_ok-two_terms-in-Less t c =
     λ n o tr at.
     let cs = columns_of c.args.shape.now in
     let i = of_less at c.in-Less.left c.in-Less.right (c.in-Less.ensures.value no_entry) c.in-Less.ensures.stands in
-    let e = c.in-ok-two-terms.ensures (n + 1) (o + 1) i.a i.b i.first i.second in
-    subst (λ (u : ConditionTree). ConditionDrafted c.args.shape.now n o u c.args.notes.now (Ok tt) c.two-terms.new.notes) (sym i.is) (less_goes n cs i.a i.b _ e.0, e.1, tt)
+    let e = c.in_ok-two_terms-in-Less.ensures (n + 1) (o + 1) i.a i.b i.first i.second in
+    subst (λ (u : ConditionTree). ConditionDrafted c.args.shape.now n o u c.args.notes.now (Ok tt) c.two_terms.new.notes) (sym i.is) (less_goes n cs i.a i.b _ e.0, e.1, tt)
 
-pub condition-parts-two-terms-requires-in-Equal : goal.condition-parts-two-terms-requires-in-Equal
-condition-parts-two-terms-requires-in-Equal t c =
+pub condition_parts-two_terms-requires-in-Equal : goal.condition_parts-two_terms-requires-in-Equal
+condition_parts-two_terms-requires-in-Equal t c =
     let i = of_equal c.requires.is.3 c.in-Equal.left c.in-Equal.right (c.in-Equal.ensures.value no_entry) c.in-Equal.ensures.stands in
     (omega (arith, i.first_below, i.second_below, c.decreases), (c.requires.narrow, (c.requires.places, (c.requires.is.0 + 1, c.requires.is.1 + 1, i.a, i.b, i.first, i.second))))
 
-pub condition-parts-returns-in-err-two-terms-2 : goal.condition-parts-returns-in-err-two-terms-2
-condition-parts-returns-in-err-two-terms-2 t c =
-    let p = err_from_is_err_and c.from-residual-in-err-two-terms-2.result c.from-residual-in-err-two-terms-2.ensures.1 in
+pub condition_parts-returns-in_err-two_terms-in-Equal : goal.condition_parts-returns-in_err-two_terms-in-Equal
+condition_parts-returns-in_err-two_terms-in-Equal t c =
+    let p = err_from_is_err_and c.from_residual-in_err-two_terms-in-Equal.result c.from_residual-in_err-two_terms-in-Equal.ensures.1 in
     rw (p.1, p.2)
     (λ n o tr at.
     let cs = columns_of c.args.shape.now in
     let i = of_equal at c.in-Equal.left c.in-Equal.right (c.in-Equal.ensures.value no_entry) c.in-Equal.ensures.stands in
-    ap (condition_typed n cs) i.is ∙ less_stops n cs i.a i.b _ (c.in-err-two-terms-2.ensures (n + 1) (o + 1) i.a i.b i.first i.second))
+    ap (condition_typed n cs) i.is ∙ less_stops n cs i.a i.b _ (c.in_err-two_terms-in-Equal.ensures (n + 1) (o + 1) i.a i.b i.first i.second))
 
-pub condition-parts-returns-in-ok-two-terms-2 : goal.condition-parts-returns-in-ok-two-terms-2
-condition-parts-returns-in-ok-two-terms-2 t c =
+pub condition_parts-returns-in_ok-two_terms-in-Equal : goal.condition_parts-returns-in_ok-two_terms-in-Equal
+condition_parts-returns-in_ok-two_terms-in-Equal t c =
     λ n o tr at.
     let cs = columns_of c.args.shape.now in
     let i = of_equal at c.in-Equal.left c.in-Equal.right (c.in-Equal.ensures.value no_entry) c.in-Equal.ensures.stands in
-    let e = c.in-ok-two-terms-2.ensures (n + 1) (o + 1) i.a i.b i.first i.second in
-    subst (λ (u : ConditionTree). ConditionDrafted c.args.shape.now n o u c.args.notes.now (Ok tt) c.two-terms-in-Equal.new.notes) (sym i.is) (less_goes n cs i.a i.b _ e.0, e.1, tt)
+    let e = c.in_ok-two_terms-in-Equal.ensures (n + 1) (o + 1) i.a i.b i.first i.second in
+    subst (λ (u : ConditionTree). ConditionDrafted c.args.shape.now n o u c.args.notes.now (Ok tt) c.two_terms-in-Equal.new.notes) (sym i.is) (less_goes n cs i.a i.b _ e.0, e.1, tt)
 
-pub condition-parts-condition-requires : goal.condition-parts-condition-requires
-condition-parts-condition-requires t c =
+pub condition_parts-condition-requires : goal.condition_parts-condition-requires
+condition_parts-condition-requires t c =
     let i = of_either c.requires.is.3 c.in-Either.left c.in-Either.right (c.in-Either.ensures.value no_entry) c.in-Either.ensures.stands in
     (omega (arith, i.first_below, c.decreases), (c.requires.narrow, (c.requires.places, (c.requires.is.0 + 1, c.requires.is.1 + 1, i.a, i.first))))
 
-pub condition-parts-returns-in-err-condition : goal.condition-parts-returns-in-err-condition
-condition-parts-returns-in-err-condition t c =
-    let p = err_from_is_err_and c.from-residual-in-err-condition.result c.from-residual-in-err-condition.ensures.1 in
+pub condition_parts-returns-in_err-condition-in-Either : goal.condition_parts-returns-in_err-condition-in-Either
+condition_parts-returns-in_err-condition-in-Either t c =
+    let p = err_from_is_err_and c.from_residual-in_err-condition-in-Either.result c.from_residual-in_err-condition-in-Either.ensures.1 in
     rw (p.1, p.2)
     (λ n o tr at.
     let cs = columns_of c.args.shape.now in
     let i = of_either at c.in-Either.left c.in-Either.right (c.in-Either.ensures.value no_entry) c.in-Either.ensures.stands in
-    ap (condition_typed n cs) i.is ∙ either_stops n cs i.a i.b _ (c.in-err-condition.ensures (n + 1) (o + 1) i.a i.first))
+    ap (condition_typed n cs) i.is ∙ either_stops n cs i.a i.b _ (c.in_err-condition-in-Either.ensures (n + 1) (o + 1) i.a i.first))
 
-pub condition-parts-condition-requires-in-Either : goal.condition-parts-condition-requires-in-Either
-condition-parts-condition-requires-in-Either t c =
+pub condition_parts-condition-requires-in-Either : goal.condition_parts-condition-requires-in-Either
+condition_parts-condition-requires-in-Either t c =
     let i = of_either c.requires.is.3 c.in-Either.left c.in-Either.right (c.in-Either.ensures.value no_entry) c.in-Either.ensures.stands in
     (omega (arith, i.second_below, c.decreases), (c.requires.narrow, (omega (arith, c.requires.places), (past (c.requires.is.0 + 1) i.a, c.requires.is.1 + 1 + size i.a, i.b, i.second))))
 
-pub condition-parts-returns-in-ok-condition : goal.condition-parts-returns-in-ok-condition
-condition-parts-returns-in-ok-condition t c =
+pub condition_parts-returns-in_ok-condition-in-Either : goal.condition_parts-returns-in_ok-condition-in-Either
+condition_parts-returns-in_ok-condition-in-Either t c =
     λ n o tr at.
     let cs = columns_of c.args.shape.now in
     let i = of_either at c.in-Either.left c.in-Either.right (c.in-Either.ensures.value no_entry) c.in-Either.ensures.stands in
-    let d = c.in-ok-condition.ensures (n + 1) (o + 1) i.a i.first in
+    let d = c.in_ok-condition-in-Either.ensures (n + 1) (o + 1) i.a i.first in
     let xs = condition_notes (n + 1) cs i.a in
     let ys = condition_notes (past (n + 1) i.a) cs i.b in
     let here : o + 1 + size i.a ≡ o + 1 + length xs = ap (λ (k : ℕ). o + 1 + k) (sym (condition_count i.a (n + 1) cs)) in
     subst (λ (u : ConditionTree). ConditionDrafted c.args.shape.now n o u c.args.notes.now c.condition-in-Either.result c.condition-in-Either.new.notes) (sym i.is)
     (behind c.args.notes.now (o + 1) (o + 1 + size i.a) xs ys _ d.1 here (omega (arith, i.first.room, c.requires.places)) _ (either_first n cs i.a i.b _ d.0) c.condition-in-Either.result _ (c.condition-in-Either.ensures (past (n + 1) i.a) (o + 1 + size i.a) i.b i.second))
 
-pub condition-parts-condition-requires-in-Not : goal.condition-parts-condition-requires-in-Not
-condition-parts-condition-requires-in-Not t c =
+pub condition_parts-condition-requires-in-Not : goal.condition_parts-condition-requires-in-Not
+condition_parts-condition-requires-in-Not t c =
     let i = of_not c.requires.is.3 c.in-Not.inner (c.in-Not.ensures.value no_entry) c.in-Not.ensures.stands in
     (omega (arith, i.first_below, c.decreases), (c.requires.narrow, (c.requires.places, (c.requires.is.0 + 1, c.requires.is.1 + 1, i.a, i.first))))
 
-pub condition-parts-returns-in-Not : goal.condition-parts-returns-in-Not
-condition-parts-returns-in-Not t c =
+pub condition_parts-returns-in-Not : goal.condition_parts-returns-in-Not
+condition_parts-returns-in-Not t c =
     λ n o tr at.
     let i = of_not at c.in-Not.inner (c.in-Not.ensures.value no_entry) c.in-Not.ensures.stands in
     subst (λ (u : ConditionTree). ConditionDrafted c.args.shape.now n o u c.args.notes.now c.condition-in-Not.result c.condition-in-Not.new.notes) (sym i.is) (c.condition-in-Not.ensures (n + 1) (o + 1) i.a i.first)

@@ -5,14 +5,14 @@ use Rattle.typing.proofs.terms.+condition_condition_parts_draft_term_term_two_te
 abbrev pub decreases-condition : goal.decreases-condition
 decreases-condition l = 3 * l.at + 1
 
-abbrev pub decreases-condition-parts : goal.decreases-condition-parts
-decreases-condition-parts l = 3 * l.at
+abbrev pub decreases-condition_parts : goal.decreases-condition_parts
+decreases-condition_parts l = 3 * l.at
 
-abbrev pub decreases-draft-term : goal.decreases-draft-term
-decreases-draft-term l = 3 * l.at
+abbrev pub decreases-draft_term : goal.decreases-draft_term
+decreases-draft_term l = 3 * l.at
 
 abbrev pub decreases-term : goal.decreases-term
 decreases-term l = 3 * l.at + 1
 
-abbrev pub decreases-two-terms : goal.decreases-two-terms
-decreases-two-terms l = 3 * max l.left l.right + 2
+abbrev pub decreases-two_terms : goal.decreases-two_terms
+decreases-two_terms l = 3 * max l.left l.right + 2

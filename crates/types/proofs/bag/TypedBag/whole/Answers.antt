@@ -21,9 +21,9 @@ returns c =
     let k = c.args.source in
     let s = source_shape catalogue k in
     record {
-      value = ap (λ a. bag_shown (record { shape = s; inputs = a })) c.one-at.ensures;
+      value = ap (λ a. bag_shown (record { shape = s; inputs = a })) c.one_at.ensures;
       good = λ e.
           let sound_source = sym (cond-true (ltb k 2) (source_sound s) _ (lt-ltb k 2 c.requires)) ∙ sound_at catalogue e k (omega (arith, c.requires)) in
           let size = sized_tells s.width s.limit (λ j. sound (column s.columns j)) (and_parts (shaped s) (leb 1 s.limit) sound_source).0 in
-          record { narrow = size.few_columns; few = size.few_rows; small = ap (at_most sensitivity_bound) c.one-at.ensures ∙ small_one k };
+          record { narrow = size.few_columns; few = size.few_rows; small = ap (at_most sensitivity_bound) c.one_at.ensures ∙ small_one k };
     }

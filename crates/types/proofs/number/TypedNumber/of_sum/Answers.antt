@@ -17,5 +17,5 @@ returns c = λ v.
     c.unbound.ensures v
     ∙ ap₂ (unbound (in_scope v))
     (c.totals.ensures ∙ ap₂ (totals bag.shape.limit) low high)
-    (c.times.ensures ∙ ap (λ n. times n bag.inputs) (c.max-most.ensures ∙ ap₂ max (c.unsigned-abs.ensures.value ∙ ap nat_abs low) (c.unsigned-abs-2.ensures.value ∙ ap nat_abs high))) in
+    (c.times.ensures ∙ ap (λ n. times n bag.inputs) (c.max-most.ensures ∙ ap₂ max (c.unsigned_abs.ensures.value ∙ ap nat_abs low) (c.unsigned_abs-2.ensures.value ∙ ap nat_abs high))) in
     rw ordered (ap Ok same)

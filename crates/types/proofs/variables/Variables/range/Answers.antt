@@ -4,11 +4,11 @@ use Rattle.std.proofs.lemmas.List.{get_or-drop}
 use Rattle.types.proofs.Scopes.{length_scope}
 use Rattle.types.proofs.variables.Variables.range.Goals as goal
 
-pub overflow-add-result : goal.overflow-add-result
-overflow-add-result c = omega (arith, length_scope c.args.self.now, c.requires)
+pub overflow_add-result : goal.overflow_add-result
+overflow_add-result c = omega (arith, length_scope c.args.self.now, c.requires)
 
-pub offset-bounds-self-self : goal.offset-bounds-self-self
-offset-bounds-self-self c = omega (arith, length_scope c.args.self.now, c.requires)
+pub offset_bounds-self-self : goal.offset_bounds-self-self
+offset_bounds-self-self c = omega (arith, length_scope c.args.self.now, c.requires)
 
 pub bounds-self-self : goal.bounds-self-self
 bounds-self-self c = omega (arith, length_scope c.args.self.now, c.requires)

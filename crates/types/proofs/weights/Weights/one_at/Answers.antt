@@ -6,11 +6,11 @@ use Rattle.types.proofs.Scopes.{length_scope}
 use Rattle.types.proofs.Sensitivities.{drop_one}
 use Rattle.types.proofs.weights.Weights.one_at.Goals as goal
 
-pub overflow-add-values : goal.overflow-add-values
-overflow-add-values c = omega (arith, c.requires, length_scope c.args.scope.now, c.first.ensures)
+pub overflow_add-values : goal.overflow_add-values
+overflow_add-values c = omega (arith, c.requires, length_scope c.args.scope.now, c.first.ensures)
 
-pub offset-bounds-values-first : goal.offset-bounds-values-first
-offset-bounds-values-first c = omega (arith, c.requires, length_scope c.args.scope.now, c.first.ensures)
+pub offset_bounds-values-first : goal.offset_bounds-values-first
+offset_bounds-values-first c = omega (arith, c.requires, length_scope c.args.scope.now, c.first.ensures)
 
 pub bounds-values-first : goal.bounds-values-first
 bounds-values-first c = omega (arith, c.requires, length_scope c.args.scope.now, c.first.ensures)

@@ -23,15 +23,15 @@ module _ (xs : List ℕ) (s : ℕ) (some : 0 < s) where
   unfolded_is : (ws bs : List ℕ) (n : ℕ) → n ≡ get_or (drop (s - 1) xs) 0 0 → ws ≡ all_added (drop s xs) (all_times n bs) → ws ≡ all_added (drop 1 (drop (s - 1) xs)) (all_times (get_or (drop (s - 1) xs) 0 0) bs)
   unfolded_is ws bs n e is = is ∙ ap₂ (λ own k. all_added own (all_times k bs)) rest_is e
 
-pub with-times-requires : goal.with-times-requires
-with-times-requires c =
+pub with_times-requires : goal.with_times-requires
+with_times-requires c =
     let v = c.args.scope.now in
     let ws = c.args.self.now in
     record {
-      factor = c.at-inner.ensures.small;
+      factor = c.at_inner.ensures.small;
       own = rest_small ws.values (spare v) c.requires.room sensitivity_bound (omega (arith, ws.full, v.within)) c.requires.body;
       small = c.requires.bound;
     }
 
 pub returns : goal.returns
-returns c = unfolded_is c.args.self.now.values (spare c.args.scope.now) c.requires.room _ _ c.at-inner.result c.at-inner.ensures.value c.with_times.ensures
+returns c = unfolded_is c.args.self.now.values (spare c.args.scope.now) c.requires.room _ _ c.at_inner.result c.at_inner.ensures.value c.with_times.ensures

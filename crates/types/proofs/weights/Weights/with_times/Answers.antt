@@ -13,18 +13,18 @@ loop-i-init c =
     let xs = c.args.self.now in
     (omega (arith, c.args.scope.now.within), refl, sym (ap (λ zs. all_added zs (all_times c.args.factor (drop 16 c.args.other.now.values))) (drop_all 16 xs.values (omega (arith, xs.full)))))
 
-small : (c : goal.After-values-in-loop-i·1) → c.args.factor * get_or c.args.other.now.values (c.loop-i.i - 1) 0 ≤ sensitivity_bound * sensitivity_bound
+small : (c : goal.After-values-in-loop-i-1) → c.args.factor * get_or c.args.other.now.values (c.loop-i.i - 1) 0 ≤ sensitivity_bound * sensitivity_bound
 small c =
     let ys = c.args.other.now in
     mul-le c.args.factor (get_or ys.values (c.loop-i.i - 1) 0) sensitivity_bound sensitivity_bound c.requires.factor (at_most_from sensitivity_bound ys.values (spare c.args.scope.now) (c.loop-i.i - 1) c.requires.small (omega (arith, c.loop-i-test.true, c.first-i-start.ensures)) (omega (arith, ys.full, c.loop-i-test.true, c.loop-i.auto.i)))
 
-pub overflow-mul-values : goal.overflow-mul-values
-overflow-mul-values c = omega (arith, small c)
+pub overflow_mul-values : goal.overflow_mul-values
+overflow_mul-values c = omega (arith, small c)
 
-pub overflow-add-values : goal.overflow-add-values
-overflow-add-values c =
+pub overflow_add-values : goal.overflow_add-values
+overflow_add-values c =
     let xs = c.args.self.now in
-    omega (arith, small c, at_most_from sensitivity_bound xs.values (spare c.args.scope.now) (c.loop-i.i - 1) c.requires.own_val (omega (arith, c.loop-i-test.true, c.first-i-start.ensures)) (omega (arith, xs.full, c.loop-i-test.true, c.loop-i.auto.i)))
+    omega (arith, small c, at_most_from sensitivity_bound xs.values (spare c.args.scope.now) (c.loop-i.i - 1) c.requires.own (omega (arith, c.loop-i-test.true, c.first-i-start.ensures)) (omega (arith, xs.full, c.loop-i-test.true, c.loop-i.auto.i)))
 
 pub loop-i-preserved : goal.loop-i-preserved
 loop-i-preserved c =
