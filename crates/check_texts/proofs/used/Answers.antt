@@ -9,5 +9,5 @@ loop-places-init c = (omega arith, grind (arith, take_all))
 pub loop-places-preserved : goal.loop-places-preserved
 loop-places-preserved c = grind (arith, suffix_len-take_yes)
 
-pub returns-else-is-blank : goal.returns-else-is-blank
-returns-else-is-blank c = grind (arith, suffix_len-take_no)
+pub returns-else-is_blank : goal.returns-else-is_blank
+returns-else-is_blank c = grind (arith, suffix_len-take_no)

@@ -3,5 +3,5 @@ use Rattle.checking.proofs.check.check.Goals as goal
 
 pub returns : goal.returns
 returns c =
-    let h = c.check-or-clear.ensures in
-    record { outcome = h; exactly = exactly c.args.catalogue.now c.args.text.now c.args.notes.now c.check-or-clear.new.notes c.args.query.now c.check-or-clear.new.query c.check-or-clear.result h }
+    let h = c.check_or_clear.ensures in
+    record { outcome = h; exactly = exactly c.args.catalogue.now c.args.text.now c.args.notes.now c.check_or_clear.new.notes c.args.query.now c.check_or_clear.new.query c.check_or_clear.result h }

@@ -6,32 +6,32 @@ use Rattle.checking.proofs.Blanks.{noted_first}
 use Rattle.checking.proofs.Calls.{faulty_call, faulty_text, sound_call}
 use Rattle.checking.proofs.check.check_anew.Goals as goal
 
-pub returns-in-err-check-call : goal.returns-in-err-check-call
-returns-in-err-check-call c =
-    let p = err_from_is_err_and c.from-residual.result c.from-residual.ensures.1 in
-    rw (p.1, p.2) (faulty_call c.args.catalogue.now c.args.text.now c.in-err-check-call.field-0.0 c.in-err-check-call.ensures)
+pub returns-in_err-check_call : goal.returns-in_err-check_call
+returns-in_err-check_call c =
+    let p = err_from_is_err_and c.from_residual.result c.from_residual.ensures.1 in
+    rw (p.1, p.2) (faulty_call c.args.catalogue.now c.args.text.now c.in_err-check_call.field-0.0 c.in_err-check_call.ensures)
 
 pub fill-requires : goal.fill-requires
 fill-requires c =
-    let s = sound_call c.args.catalogue.now c.args.text.now c.in-ok-check-call.ensures in
+    let s = sound_call c.args.catalogue.now c.args.text.now c.in_ok-check_call.ensures in
     record { sound = s.0; some = s.1; places = c.requires }
 
-pub returns-in-err-fill : goal.returns-in-err-fill
-returns-in-err-fill c =
-    let p = err_from_is_err_and c.from-residual-in-err-fill.result c.from-residual-in-err-fill.ensures.1 in
-    rw (p.1, p.2) (faulty_text c.args.catalogue.now c.args.text.now c.in-err-fill.field-0.0 (sym c.in-ok-check-call.ensures) c.in-err-fill.ensures)
+pub returns-in_err-fill : goal.returns-in_err-fill
+returns-in_err-fill c =
+    let p = err_from_is_err_and c.from_residual-in_err-fill.result c.from_residual-in_err-fill.ensures.1 in
+    rw (p.1, p.2) (faulty_text c.args.catalogue.now c.args.text.now c.in_err-fill.field-0.0 (sym c.in_ok-check_call.ensures) c.in_err-fill.ensures)
 
 pub returns : goal.returns
 returns c =
     let k = c.args.catalogue.now in
-    let d = c.in-ok-fill.ensures in
+    let d = c.in_ok-fill.ensures in
     let many = ap length c.entries.ensures.value ∙ d.filled.holds.1 in
     record {
       tree = d.tree;
       type = d.type;
-      sound = sym c.in-ok-check-call.ensures;
+      sound = sym c.in_ok-check_call.ensures;
       spells = d.spells;
       typed = d.typed;
-      notes = noted_first c.args.notes.now (number_notes 1 k [] d.tree) c.fill.new.notes c.blank-from.new.notes (length c.entries.result.now) _ d.notes (omega arith) (many ∙ sym (number_count d.tree 1 k [])) many c.blank-from.ensures;
+      notes = noted_first c.args.notes.now (number_notes 1 k [] d.tree) c.fill.new.notes c.blank_from.new.notes (length c.entries.result.now) _ d.notes (omega arith) (many ∙ sym (number_count d.tree 1 k [])) many c.blank_from.ensures;
       filled = d.filled;
     }

@@ -32,5 +32,5 @@ number-requires c =
 
 pub returns : goal.returns
 returns c =
-    to_z-of_z w64 c.number.result (record { sfits = c.number.type-inv })
+    to_z-of_z w64 c.number.result (record { sfits = c.number.type_inv })
     ∙ c.number.ensures [] margin (ready _ _ _ (unfold part_at parts parts_from in refl) c.new.ensures.values (unfold parts parts_from in refl))

@@ -4,7 +4,7 @@ use Rattle.forms.specs.Held.{held}
 use Rattle.trees.specs.Size.{max_depth}
 use Rattle.types.specs.Shown.{number_shown}
 
-pub invariant-of-self : goal.invariant-of-self
-invariant-of-self c =
+pub invariant_of-self : goal.invariant_of-self
+invariant_of-self c =
     let d = c.in-Ok.ensures in
-    (query_holds (held c.read-typed.new.table) c.args.catalogue.now d.tree (number_shown max_depth c.in-Ok.typed) d.holds d.typed, tt)
+    record { typed = query_holds (held c.read_typed.new.table) c.args.catalogue.now d.tree (number_shown max_depth c.in-Ok.typed) d.holds d.typed }
