@@ -1,11 +1,29 @@
 // Query texts are checked against the catalogue of a pan, and what is noted of their forms is told as a table.
-use crate::day::{DAY, read_file};
+use anyhow::anyhow;
 use checking::check::check;
 use checking::query::Query;
 use refusals::Fault;
 use rules::catalogue::Catalogue;
-use sources::Range;
+use sources::{Range, Shape};
+use std::fs;
 use typing::note::{Note, NoteKind};
+
+// Minute of the day, and density in kilograms per cubic metre, every half hour.
+const DAY: Shape = Shape {
+    width: 2,
+    limit: 48,
+    columns: [
+        Range { low: 0, high: 1439 },
+        Range {
+            low: 1000,
+            high: 1300,
+        },
+        Range::ZERO,
+        Range::ZERO,
+        Range::ZERO,
+        Range::ZERO,
+    ],
+};
 
 // Both sources are logs of a day; the settings are a density, and a correction of it.
 const PAN: Catalogue = Catalogue {
@@ -13,7 +31,11 @@ const PAN: Catalogue = Catalogue {
     settings: [Range { low: 0, high: 2000 }, Range { low: -50, high: 50 }],
 };
 
-pub fn tell(rt: &HostRuntime) -> anyhow::Result<()> {
+fn main(rt: HostRuntime) -> anyhow::Result<()> {
+    tell(&rt)
+}
+
+fn tell(rt: &HostRuntime) -> anyhow::Result<()> {
     let mut notes = [Note::BLANK; 64];
     let mut query = Query::new(rt.alloc())?;
     for name in ["under_1180.query", "no_such_column.query"] {
@@ -21,6 +43,14 @@ pub fn tell(rt: &HostRuntime) -> anyhow::Result<()> {
         tell_check(rt, name, text.as_slice(), &mut notes, &mut query)?;
     }
     Ok(())
+}
+
+// The bytes of a file, or a message that names it.
+fn read_file(rt: &HostRuntime, name: &str) -> anyhow::Result<Vec<u8>> {
+    match fs::read(rt, name) {
+        Ok(bytes) => Ok(bytes),
+        Err(error) => Err(anyhow!("{name} cannot be read: {error}")),
+    }
 }
 
 fn tell_check(
