@@ -7,7 +7,7 @@ use Rattle.trees.specs.Size.{size}
 use Rattle.forms.proofs.Parts.{same_number}
 use Rattle.forms.specs.declared.form.Entry.{Entry}
 use Rattle.forms.specs.Table.{NumberTree, as_number, part_at}
-use Rattle.reading.specs.Law.{Holds}
+use Rattle.reading.specs.Law.{HoldsLined}
 use Rattle.rules.proofs.Same.{range_itself, range_tells}
 use Rattle.rules.specs.Amounts.{amounts, none}
 use Rattle.rules.specs.Ranges.{same_range}
@@ -35,22 +35,22 @@ amounts_same a =
     (and_from (eqb a.source_1 a.source_1) (eqb a.setting_0 a.setting_0 && eqb a.setting_1 a.setting_1) (eq-eqb a.source_1 a.source_1 refl) (and_from (eqb a.setting_0 a.setting_0) (eqb a.setting_1 a.setting_1) p q))
 
 -- a table that holds a typed number is a query
-pub query_holds : (es : List Entry) (c : Catalogue) (t : NumberTree) (x : NumberType) → Holds es t → number_typed 1 c [] t ≡ Ok x → is_query es c x.range x.inputs ≡ true
-query_holds [] c t x h e = absurd (omega (arith, h.1, number_some t c))
+pub query_holds : (es : List Entry) (c : Catalogue) (t : NumberTree) (x : NumberType) → HoldsLined es t → number_typed 1 c [] t ≡ Ok x → is_query es c x.range x.inputs ≡ true
+query_holds [] c t x h e = absurd (omega (arith, h.0.1, number_some t c))
 query_holds (y ∷ ys) c t x h e =
     let es = y ∷ ys in
     let typed : has_type (number_typed 1 c [] t) x.range x.inputs ≡ true = ap (λ (r : Result NumberType Refusal). has_type r x.range x.inputs) e ∙ and_from (same_range x.range x.range) (same_amounts x.inputs x.inputs) (range_itself x.range) (amounts_same x.inputs) in
-    ap (λ (o : Option NumberTree). is_typed o es c x.range x.inputs) (ap as_number h.0)
-    ∙ and_from (is_lined es t (length es - 1) 1 0) (eqb (length es) (size t) && has_type (number_typed 1 c [] t) x.range x.inputs) ((lined_says es t).holds (length es - 1) 1 0 h.2) (and_from (eqb (length es) (size t)) (has_type (number_typed 1 c [] t) x.range x.inputs) (eq-eqb (length es) (size t) h.1) typed)
+    ap (λ (o : Option NumberTree). is_typed o es c x.range x.inputs) (ap as_number h.0.0)
+    ∙ and_from (is_lined es t (length es - 1) 1 0) (eqb (length es) (size t) && has_type (number_typed 1 c [] t) x.range x.inputs) ((lined_says es t).holds (length es - 1) 1 0 h.1) (and_from (eqb (length es) (size t)) (has_type (number_typed 1 c [] t) x.range x.inputs) (eq-eqb (length es) (size t) h.0.1) typed)
 
 typed_tells : (o : Option NumberTree) (es : List Entry) (c : Catalogue) (r : Range) (a : Amounts) → as_number (part_at es (length es - 1)) ≡ o → is_typed o es c r a ≡ true → TypedQuery es c r a
 typed_tells None es c r a is e = absurd (false≢true e)
 typed_tells (Some t) es c r a is e =
     let p = and_parts (is_lined es t (length es - 1) 1 0) (eqb (length es) (size t) && has_type (number_typed 1 c [] t) r a) e in
     let q = and_parts (eqb (length es) (size t)) (has_type (number_typed 1 c [] t) r a) p.1 in
-    go (same_number (part_at es (length es - 1)) t is, eqb-true (length es) (size t) q.0, (lined_says es t).tells (length es - 1) 1 0 p.0) (number_typed 1 c [] t) refl q.1
+    go ((same_number (part_at es (length es - 1)) t is, eqb-true (length es) (size t) q.0), (lined_says es t).tells (length es - 1) 1 0 p.0) (number_typed 1 c [] t) refl q.1
   where
-    go : Holds es t → (s : Result NumberType Refusal) → number_typed 1 c [] t ≡ s → has_type s r a ≡ true → TypedQuery es c r a
+    go : HoldsLined es t → (s : Result NumberType Refusal) → number_typed 1 c [] t ≡ s → has_type s r a ≡ true → TypedQuery es c r a
     go h (Ok x) f g =
         let w = and_parts (same_range x.range r) (same_amounts x.inputs a) g in
         record { tree = t; type = x; holds = h; typed = f; range_is = range_tells x.range r w.0; inputs_are = amounts_tell x.inputs a w.1 }

@@ -5,7 +5,7 @@ use Rattle.sources.specs.declared.shapes.Shape.{Shape}
 use Rattle.forms.specs.declared.form.Entry.{Entry}
 use Rattle.forms.specs.Held.{held}
 use Rattle.forms.specs.Table.{NumberTree}
-use Rattle.reading.specs.Law.{Holds}
+use Rattle.reading.specs.Law.{HoldsLined}
 use Rattle.rules.specs.Amounts.{none}
 use Rattle.rules.specs.Typing.{NumberType}
 use Rattle.rules.specs.declared.amounts.Amounts.{Amounts}
@@ -38,7 +38,7 @@ pub record Emptied (q : Query) : Type 0 where
 
 -- the query holds the tree, under the catalogue, and tells the range and the sensitivities of its type
 pub record Filled (c : Catalogue) (t : NumberTree) (x : NumberType) (q : Query) : Type 0 where
-  pub holds : Holds (entries_in q) t
+  pub holds : HoldsLined (entries_in q) t
   pub catalogue : catalogue_of q ≡ c
   pub range : range_of q ≡ x.range
   pub sensitivities : sensitivities_of q ≡ x.inputs

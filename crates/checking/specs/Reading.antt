@@ -3,7 +3,7 @@ use Rattle.std.specs.Prelude.{◌≡◌, ℕ, List, [], Ok, Err, Result}
 use Rattle.trees.specs.Size.{max_depth}
 use Rattle.forms.specs.declared.form.Entry.{Entry}
 use Rattle.forms.specs.Table.{NumberTree}
-use Rattle.reading.specs.Law.{Holds}
+use Rattle.reading.specs.Law.{HoldsLined}
 use Rattle.rules.specs.Typing.{number_typed}
 use Rattle.rules.specs.declared.catalogue.Catalogue.{Catalogue}
 use Rattle.types.specs.Shown.{number_shown}
@@ -17,7 +17,7 @@ use Rattle.checking.specs.declared.fault.CheckFault.{CheckFault}
 pub record ReadTyped (c : Catalogue) (text : List ℕ) (before : List Note) (x : TypedNumber) (es : List Entry) (now_noted : List Note) : Type 0 where
   pub tree : NumberTree
   pub spells : Spells text tree
-  pub holds : Holds es tree
+  pub holds : HoldsLined es tree
   pub typed : number_typed 1 c [] tree ≡ Ok (number_shown max_depth x)
   pub notes : now_noted ≡ noted_at before 0 (number_notes 1 c [] tree)
 

@@ -6,7 +6,7 @@ use Rattle.sources.specs.declared.shapes.Range.{Range}
 use Rattle.trees.specs.Size.{size}
 use Rattle.forms.specs.declared.form.Entry.{Entry}
 use Rattle.forms.specs.Table.{NumberTree, as_number, part_at}
-use Rattle.reading.specs.Law.{Holds}
+use Rattle.reading.specs.Law.{HoldsLined}
 use Rattle.rules.specs.Amounts.{none}
 use Rattle.rules.specs.Ranges.{same_range}
 use Rattle.rules.specs.Typing.{NumberType, number_typed}
@@ -40,7 +40,7 @@ is_query (e ∷ es) c r a = is_typed (tree_of (e ∷ es)) (e ∷ es) c r a
 pub record TypedQuery (es : List Entry) (c : Catalogue) (r : Range) (a : Amounts) : Type 0 where
   pub tree : NumberTree
   pub type : NumberType
-  pub holds : Holds es tree
+  pub holds : HoldsLined es tree
   pub typed : number_typed 1 c [] tree ≡ Ok type
   pub range_is : type.range ≡ r
   pub inputs_are : type.inputs ≡ a

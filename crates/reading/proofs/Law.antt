@@ -25,7 +25,7 @@ use Rattle.reading.proofs.Sound.{Spelt, Whole, At, all_lines}
 use Rattle.reading.proofs.Typed.{part_of}
 use Rattle.reading.specs.declared.fault.FormFault.{FormFault}
 use Rattle.reading.specs.declared.frame.Frame.{Frame}
-use Rattle.reading.specs.Law.{Holds, ReadsTrees}
+use Rattle.reading.specs.Law.{Holds, HoldsLined, OpensLines, ReadsTrees}
 use Rattle.reading.specs.Progress.{State}
 use Rattle.reading.specs.Text.{lines_of, lines_read, beginning, kinds_read, text_read, replied, entries_of}
 
@@ -91,11 +91,11 @@ read_written t limits =
 -- what is read is a tree
 
 abbrev TreeOf : List ℕ → List Entry → Type 0
-TreeOf text es = (t : Tree Number) × WithinLimits t × (text ≡ written t) × Holds es t
+TreeOf text es = (t : Tree Number) × WithinLimits t × (text ≡ written t) × HoldsLined es t
 
-holds_from : (es : List Entry) (t : Tree Number) → Spelt es (length es - 1) (any t) → length es ≡ size t → Lined es t (length es - 1) 1 0 → Holds es t
+holds_from : (es : List Entry) (t : Tree Number) → Spelt es (length es - 1) (any t) → length es ≡ size t → Lined es t (length es - 1) 1 0 → HoldsLined es t
 unfolding part_at
-holds_from es t s e l = (s.there, e, l)
+holds_from es t s e l = ((s.there, e), l)
 
 -- the written form of t leaves the entries that `complete` speaks of
 lined_from : (text : List ℕ) (s : State) (t : Tree Number) → WithinLimits t → text ≡ written t → lines_read beginning 1 (lines_of text) ≡ Ok s → Lined s.entries t (length s.entries - 1) 1 0
@@ -162,22 +162,29 @@ some_written t limits e = go (lines t) (told_by_lines Number t).0 e
 fit_64 : (t : Tree Number) → WithinLimits t → All (λ z. nat_abs z ≤ 2 ^ 63 - 1) (numbers t)
 fit_64 t limits = All-weaker (λ z. nat_abs z ≤ literal_bound) (λ z. nat_abs z ≤ 2 ^ 63 - 1) (λ z h. omega arith) (numbers t) limits.small
 
-same_tree : (es : List Entry) (t u : Tree Number) → any u ≡ any t → Holds es u → Holds es t
-same_tree es t u e h = subst (λ (p : AnyTree). (part_at es (length es - 1) ≡ part_of p) × (length es ≡ size p.1) × Lined es p.1 (length es - 1) 1 0) e h
+same_tree : (es : List Entry) (t u : Tree Number) → any u ≡ any t → HoldsLined es u → HoldsLined es t
+same_tree es t u e h = subst (λ (p : AnyTree). ((part_at es (length es - 1) ≡ part_of p) × (length es ≡ size p.1)) × Lined es p.1 (length es - 1) 1 0) e h
 
-every_tree : (text : List ℕ) (t : Tree Number) → WithinLimits t → text ≡ written t → (replied (text_read text) ≡ Ok tt) × Holds (entries_of (text_read text)) t
+every_tree : (text : List ℕ) (t : Tree Number) → WithinLimits t → text ≡ written t → (replied (text_read text) ≡ Ok tt) × HoldsLined (entries_of (text_read text)) t
 every_tree text t limits e =
     let read = ap (λ (bs : List ℕ). replied (text_read bs)) e ∙ read_written t limits in
     (read, go (only_trees text read))
   where
-    go : (text ≡ []) ⊎ TreeOf text (entries_of (text_read text)) → Holds (entries_of (text_read text)) t
+    go : (text ≡ []) ⊎ TreeOf text (entries_of (text_read text)) → HoldsLined (entries_of (text_read text)) t
     go (inl z) = absurd (some_written t limits (sym e ∙ z))
     go (inr x) = same_tree (entries_of (text_read text)) t x.0 (written_once Number Number x.0 t (fit_64 x.0 x.1) (fit_64 t limits) (sym x.2 ∙ e)) x.3
 
 pub reads_trees : (text : List ℕ) → ReadsTrees text (replied (text_read text)) (entries_of (text_read text))
 reads_trees text =
     record {
-      only = only_trees text;
-      every = every_tree text;
+      only = λ e. unlined (only_trees text e);
+      every = λ t limits e. let x = every_tree text t limits e in (x.0, x.1.0);
       nothing = λ e. (ap (λ (bs : List ℕ). replied (text_read bs)) e, ap (λ (bs : List ℕ). entries_of (text_read bs)) e);
     }
+  where
+    unlined : (text ≡ []) ⊎ TreeOf text (entries_of (text_read text)) → (text ≡ []) ⊎ ((t : Tree Number) × WithinLimits t × (text ≡ written t) × Holds (entries_of (text_read text)) t)
+    unlined (inl e) = inl e
+    unlined (inr x) = inr (x.0, x.1, x.2, x.3.0)
+
+pub opens_lines : (text : List ℕ) → OpensLines text (entries_of (text_read text))
+opens_lines text t limits e = (every_tree text t limits e).1.1

@@ -1,7 +1,7 @@
 // A whole text is read, line by line.
 ghost use Rattle.std.specs.Prelude.{◌≡◌, []};
 ghost use Rattle.forms.specs.Held.{held};
-ghost use Rattle.reading.specs.Law.{ReadsTrees};
+ghost use Rattle.reading.specs.Law.{OpensLines, ReadsTrees};
 ghost use Rattle.reading.specs.Text.{Fills, entries_of, kinds_read, replied, text_read};
 
 use crate::fault::FormFault;
@@ -14,6 +14,7 @@ pub fn read(text: &[u8], table: &mut Table) -> Result<(), FormFault>
     ensures reply { result ≡ replied (text_read text.now) }
     ensures table { held table.new ≡ entries_of (text_read text.now) }
     ensures law { ReadsTrees text.now result (held table.new) }
+    ensures lines { OpensLines text.now (held table.new) }
 {
     read_anew(text, table)
 }

@@ -8,7 +8,7 @@ use Rattle.sources.specs.Shapes.{column, columns_of, range}
 use Rattle.sources.specs.Unions.{hull, hulls}
 use Rattle.sources.specs.declared.shapes.Range.{Range}
 use Rattle.forms.specs.Limits.{number_bound, term_bound}
-use Rattle.forms.specs.Lined.{past}
+pub use Rattle.forms.specs.Lined.{past}
 use Rattle.trees.specs.declared.Kind.TheVariants.{Bag, Condition, Number, Term}
 use Rattle.trees.specs.Tree.{Tree}
 use Rattle.trees.specs.Tree.Tree.{bag, keep, put, pool, col, lit, plus, times, pick, less, equal, either, not, num, setting, var, count, sum, add, sub, least, most, scale, clip, let_in}

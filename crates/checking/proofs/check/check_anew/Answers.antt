@@ -25,7 +25,7 @@ pub returns : goal.returns
 returns c =
     let k = c.args.catalogue.now in
     let d = c.in_ok-fill.ensures in
-    let many = ap length c.entries.ensures.value ∙ d.filled.holds.1 in
+    let many = ap length c.entries.ensures.value ∙ d.filled.holds.0.1 in
     record {
       tree = d.tree;
       type = d.type;

@@ -4,7 +4,7 @@ use Rattle.std.proofs.lemmas.Result.{err_from_is_err_and}
 use Rattle.sources.specs.declared.shapes.Range.{Range}
 use Rattle.forms.specs.declared.form.Entry.{Entry}
 use Rattle.forms.specs.Held.{held}
-use Rattle.reading.specs.Law.{Holds}
+use Rattle.reading.specs.Law.{HoldsLined}
 use Rattle.rules.specs.Typing.{NumberType, number_typed}
 use Rattle.types.specs.Shown.{in_scope, number_shown, spare}
 use Rattle.typing.proofs.NumberSteps.{number_some}
@@ -14,31 +14,31 @@ use Rattle.checking.proofs.query.fill.read_typed.Goals as goal
 
 pub overflow_sub-entries : goal.overflow_sub-entries
 overflow_sub-entries c =
-    let w = whole c.args.text.now (held c.read.new.table) c.entries-entries.result.now _ c.in_ok-read.ensures.law c.requires.some c.entries-entries.ensures.value in
-    omega (arith, w.holds.1, number_some w.tree c.args.catalogue.now)
+    let w = whole c.args.text.now (held c.read.new.table) c.entries-entries.result.now _ c.in_ok-read.ensures.law c.in_ok-read.ensures.lines c.requires.some c.entries-entries.ensures.value in
+    omega (arith, w.holds.0.1, number_some w.tree c.args.catalogue.now)
 
 pub number-requires : goal.number-requires
 number-requires c =
-    let w = whole c.args.text.now (held c.read.new.table) c.entries-entries.result.now _ c.in_ok-read.ensures.law c.requires.some c.entries-entries.ensures.value in
+    let w = whole c.args.text.now (held c.read.new.table) c.entries-entries.result.now _ c.in_ok-read.ensures.law c.in_ok-read.ensures.lines c.requires.some c.entries-entries.ensures.value in
     record { sound = c.requires.sound; places = c.requires.places; is = (1, 0, w.tree, at_start c.args.text.now c.entries-entries.result.now c.new.result w c.new.ensures.spare) }
 
 pub returns-in_err-typed : goal.returns-in_err-typed
 returns-in_err-typed c =
     let p = err_from_is_err_and c.from_residual-in_err-typed.result c.from_residual-in_err-typed.ensures.1 in
-    let w = whole c.args.text.now (held c.read.new.table) c.entries-entries.result.now _ c.in_ok-read.ensures.law c.requires.some c.entries-entries.ensures.value in
+    let w = whole c.args.text.now (held c.read.new.table) c.entries-entries.result.now _ c.in_ok-read.ensures.law c.in_ok-read.ensures.lines c.requires.some c.entries-entries.ensures.value in
     let d = c.in_err-typed.ensures 1 0 w.tree (at_start c.args.text.now c.entries-entries.result.now c.new.result w c.new.ensures.spare) in
     rw (p.1, p.2) (w.tree, w.spells, ap (λ (rs : List Range). number_typed 1 c.args.catalogue.now rs w.tree) (sym c.new.ensures.ranges) ∙ d)
 
 pub returns : goal.returns
 returns c =
     let k = c.args.catalogue.now in
-    let w = whole c.args.text.now (held c.read.new.table) c.entries-entries.result.now _ c.in_ok-read.ensures.law c.requires.some c.entries-entries.ensures.value in
+    let w = whole c.args.text.now (held c.read.new.table) c.entries-entries.result.now _ c.in_ok-read.ensures.law c.in_ok-read.ensures.lines c.requires.some c.entries-entries.ensures.value in
     let d = c.in_ok-typed.ensures 1 0 w.tree (at_start c.args.text.now c.entries-entries.result.now c.new.result w c.new.ensures.spare) in
     let empty = c.new.ensures.ranges in
     record {
       tree = w.tree;
       spells = w.spells;
-      holds = subst (λ (es : List Entry). Holds es w.tree) c.entries-entries.ensures.value w.holds;
+      holds = subst (λ (es : List Entry). HoldsLined es w.tree) c.entries-entries.ensures.value w.holds;
       typed = ap (λ (rs : List Range). number_typed 1 k rs w.tree) (sym empty) ∙ d.0 ∙ ap (λ (i : ℕ). Ok (number_shown i c.in_ok-typed.typed)) c.new.ensures.spare;
       notes = d.1 ∙ ap (λ (rs : List Range). noted_at c.args.notes.now 0 (number_notes 1 k rs w.tree)) empty;
     }
