@@ -1,4 +1,6 @@
 // How far the rows of two sources are apart.
+#![tactic(auto)]
+
 mod distances;
 mod merging;
 mod plain;

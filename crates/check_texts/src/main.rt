@@ -1,4 +1,6 @@
 // Reads many texts, with `=` between them, checks each under one catalogue, and tells what the rules give it and its forms, or its refusal.
+#![tactic(auto)]
+
 ghost use Rattle.std.specs.Prelude.{◌≡◌, ◌+◌, length};
 ghost use Rattle.check_texts.specs.Shown.{blank, word_of};
 ghost use Rattle.std.specs.List.{suffix_len};

@@ -1,5 +1,5 @@
 -- What the fault of a call tells, and that there is none.
-use Rattle.std.proofs.Common.{◌≡◌, ℕ, ◌<◌, ◌≤◌, Bool, true, false, ltb, leb, List, length, Some, None, Option, sym, refl, ap, ◌∙◌, subst, arith}
+use Rattle.std.proofs.Common.{◌≡◌, ℕ, ◌<◌, Bool, true, false, ltb, leb, List, length, Some, None, Option, sym, refl, ap, ◌∙◌, subst, arith}
 use Rattle.refusals.specs.Rules.{or_else, unless}
 use Rattle.std.proofs.lemmas.Bool.{ltb-true}
 use Rattle.rules.specs.Catalogue.{faulty_input}

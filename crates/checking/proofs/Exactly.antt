@@ -1,17 +1,15 @@
 -- Exactly the acceptable texts are accepted.
-use Rattle.std.proofs.Common.{◌≡◌, ℕ, ◌-◌, List, [], length, Some, None, Ok, Err, Result, sym, refl, ap, ◌∙◌, subst, arith}
-use Rattle.refusals.specs.declared.Refusal.{Refusal}
-use Rattle.forms.specs.declared.form.Entry.{Entry}
-use Rattle.forms.specs.Table.{NumberTree, Part, part_at}
+use Rattle.std.proofs.Common.{◌≡◌, ℕ, ◌-◌, List, [], length, Some, None, Ok, Err, Result, sym, refl, ap, ◌∙◌, arith}
+use Rattle.forms.specs.Table.{NumberTree, part_at}
 use Rattle.forms.specs.Table.Part.{a_number}
 use Rattle.reading.proofs.Law.{reads_trees}
 use Rattle.reading.specs.Text.{entries_of, replied, text_read}
 use Rattle.reading.specs.declared.fault.FormFault.{FormFault}
-use Rattle.rules.specs.Typing.{NumberType, number_typed}
+use Rattle.rules.specs.Typing.{number_typed}
 use Rattle.rules.specs.declared.catalogue.Catalogue.{Catalogue}
 use Rattle.types.specs.Faults.{rule_refusal}
 use Rattle.typing.specs.declared.note.Note.{Note}
-use Rattle.checking.specs.Check.{Acceptable, AcceptsExactly, Checks, Spells, call_fault, places_fault}
+use Rattle.checking.specs.Check.{Acceptable, AcceptsExactly, Checks, Spells, call_fault}
 use Rattle.checking.specs.declared.fault.CheckFault.{CheckFault}
 use Rattle.checking.specs.declared.fault.CheckFault.TheVariants as fault
 use Rattle.checking.specs.declared.query.Query.{Query}

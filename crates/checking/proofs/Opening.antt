@@ -1,5 +1,5 @@
 -- The truth value says that the forms of a table open where they should.
-use Rattle.std.proofs.Common.{◌≡◌, ℕ, ◌+◌, Bool, true, ◌&&◌, eqb, List}
+use Rattle.std.proofs.Common.{◌≡◌, ℕ, ◌+◌, true, ◌&&◌, eqb, List}
 use Rattle.std.proofs.lemmas.Bool.{and_from, and_parts, eq-eqb, eqb-true}
 use Rattle.trees.specs.declared.Kind.{Kind}
 use Rattle.trees.specs.Size.{size}

@@ -1,5 +1,5 @@
 -- The truth value in a query's type says that it is empty or typed.
-use Rattle.std.proofs.Common.{◌≡◌, ℕ, ◌-◌, Bool, true, false, ◌&&◌, eqb, List, [], ◌∷◌, length, Some, None, Ok, Err, Option, Result, sym, refl, ap, ◌∙◌, subst, ap₂, inl, inr, arith}
+use Rattle.std.proofs.Common.{◌≡◌, ℕ, ◌-◌, true, ◌&&◌, eqb, List, [], ◌∷◌, length, Some, None, Ok, Err, Option, Result, sym, refl, ap, ◌∙◌, ap₂, inl, inr, arith}
 use Rattle.refusals.specs.declared.Refusal.{Refusal}
 use Rattle.sources.specs.declared.shapes.Range.{Range}
 use Rattle.std.proofs.lemmas.Bool.{and_from, and_parts, eq-eqb, eqb-true, false≢true}
@@ -17,7 +17,7 @@ use Rattle.rules.specs.declared.catalogue.Catalogue.{Catalogue}
 use Rattle.typing.proofs.NumberSteps.{number_some}
 use Rattle.checking.proofs.Opening.{lined_says}
 use Rattle.checking.specs.Opening.{is_lined}
-use Rattle.checking.specs.Typed.{EmptyQuery, IsQuery, TypedQuery, has_type, is_query, is_typed, same_amounts, tree_of, zero_range}
+use Rattle.checking.specs.Typed.{IsQuery, TypedQuery, has_type, is_query, is_typed, same_amounts, tree_of, zero_range}
 
 amounts_tell : (a b : Amounts) → same_amounts a b ≡ true → a ≡ b
 amounts_tell a b e =

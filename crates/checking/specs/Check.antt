@@ -1,5 +1,5 @@
 -- What a check comes to, for every text, catalogue and number of note places.
-use Rattle.std.specs.Prelude.{◌≡◌, ℕ, ◌-◌, ◌≤◌, List, [], ◌++◌, length, replicate, Some, None, Ok, Err, Option, Result, nat_le, nat_lt}
+use Rattle.std.specs.Prelude.{◌≡◌, ℕ, ◌-◌, List, [], ◌++◌, length, replicate, Some, None, Ok, Err, Option, Result, nat_le, nat_lt}
 use Rattle.refusals.specs.Rules.{or_else, unless}
 use Rattle.trees.specs.Size.{WithinLimits, size}
 use Rattle.trees.specs.Written.{written}

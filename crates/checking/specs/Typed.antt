@@ -1,5 +1,5 @@
 -- When a table, a catalogue, a range and sensitivities make up a query: nothing at all, or a number as the rules type it.
-use Rattle.std.specs.Prelude.{◌≡◌, ℕ, ◌-◌, Bool, true, false, ◌&&◌, ◌⊎◌, List, [], ◌∷◌, length, pos, Some, None, Ok, Err, Option, Result, ◌==◌}
+use Rattle.std.specs.Prelude.{◌≡◌, ◌-◌, Bool, false, ◌&&◌, ◌⊎◌, List, [], ◌∷◌, length, pos, Some, None, Ok, Err, Option, Result, ◌==◌}
 use Rattle.refusals.specs.declared.Refusal.{Refusal}
 use Rattle.sources.specs.Shapes.{range}
 use Rattle.sources.specs.declared.shapes.Range.{Range}

@@ -1,4 +1,6 @@
 // A query text is checked against a catalogue: it fills a query and a table of notes, or is refused.
+#![tactic(auto)]
+
 pub mod check;
 pub mod fault;
 pub mod query;

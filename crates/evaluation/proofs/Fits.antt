@@ -1,5 +1,5 @@
 -- A plant without a reason to refuse it is one that fits.
-use Rattle.std.proofs.Common.{◌≡◌, ℕ, ◌<◌, Bool, true, false, ◌&&◌, eqb, List, ℤ, pos, is_some, None, Ok, Err, Result, sym, refl, ap, ◌∙◌, subst, arith}
+use Rattle.std.proofs.Common.{◌≡◌, ℕ, ◌<◌, Bool, true, false, ◌&&◌, eqb, List, pos, is_some, None, Ok, Err, Result, sym, refl, ap, ◌∙◌, subst, arith}
 use Rattle.refusals.specs.Rules.{or_else, or_else_none, reason, refusal, unless, unless_none}
 use Rattle.refusals.specs.declared.Refusal.{Refusal}
 use Rattle.rules.proofs.Same.{range_itself, range_tells}

@@ -9,7 +9,6 @@ use Rattle.rules.specs.declared.catalogue.Catalogue.{Catalogue}
 use Rattle.sources.specs.Indexed.{each}
 use Rattle.sources.specs.Shapes.{column, within}
 use Rattle.sources.specs.Source.{Meaning}
-use Rattle.sources.specs.declared.shapes.Range.{Range}
 use Rattle.sources.specs.declared.shapes.Shape.{Shape}
 use Rattle.evaluation.specs.declared.plant.PlantFault.{PlantFault}
 

@@ -1,4 +1,6 @@
 // A query's table of forms, evaluated on any plant that fits the catalogue of the query.
+#![tactic(auto)]
+
 mod addends;
 mod evaluation;
 mod fitting;

@@ -1,5 +1,5 @@
 -- The cells beyond a row's width, which are 0 in code, are seen by no term, no condition and no step.
-use Rattle.std.proofs.Common.{◌≡◌, ℕ, zero, suc, ◌+◌, ◌-◌, ◌≤◌, Bool, true, false, cond, not as negated, ◌||◌, List, [], ◌∷◌, ◌++◌, length, get_or, set, replicate, ℤ, pos, negsuc, ◌+ℤ◌, ◌*ℤ◌, Some, None, Option, sym, refl, ap, ◌∙◌, subst, ap₂, arith}
+use Rattle.std.proofs.Common.{◌≡◌, ℕ, zero, suc, ◌-◌, ◌≤◌, Bool, true, false, cond, not as negated, ◌||◌, List, [], ◌∷◌, ◌++◌, length, get_or, set, replicate, ℤ, pos, negsuc, ◌+ℤ◌, ◌*ℤ◌, Some, None, Option, sym, refl, ap, ◌∙◌, subst, ap₂, arith}
 use lib.Signed.{lt_z}
 use Rattle.std.proofs.lemmas.List.{ext_get_or, length-append, length-replicate, length-set, set-append_left}
 use Rattle.std.specs.Option.{option_map}

@@ -5,7 +5,7 @@ use lib.Pow.{pow-lt}
 use Rattle.std.proofs.lemmas.List.{drop_all, drop_more, get_or-append-add, get_or_append_left, get_or-map, length-append, length-map, length_push}
 use Rattle.std.proofs.lemmas.Bool.{cases_order}
 use Rattle.trees.specs.Meaning.{Row}
-use Rattle.trees.specs.Tree.Tree.{keep, put, pool}
+use Rattle.trees.specs.Tree.Tree.{keep, put}
 use Rattle.forms.specs.declared.form.Entry.{Entry}
 use Rattle.forms.specs.declared.form.Form.{Form}
 use Rattle.forms.specs.declared.form.Form.TheVariants.{Keep, Put}

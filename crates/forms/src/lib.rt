@@ -1,4 +1,6 @@
 // The table that spells a query's tree, and the evaluation of its terms, conditions, numbers and bags on plain values.
+#![tactic(auto)]
+
 pub mod bags;
 pub mod form;
 pub mod limits;

@@ -1,4 +1,6 @@
 // Query texts are checked against the catalogue of a pan, and what is noted of their forms is told as a table.
+#![tactic(auto)]
+
 use anyhow::anyhow;
 use checking::check::check;
 use checking::query::Query;

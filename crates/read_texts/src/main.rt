@@ -1,4 +1,6 @@
 // Reads many texts, with `=` between them, and tells of each how many forms it has, or its refusal.
+#![tactic(auto)]
+
 use forms::table::Table;
 use reading::text::read;
 use refusals::Fault;

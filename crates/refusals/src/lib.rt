@@ -1,4 +1,6 @@
 // What a call that says no tells its caller, in one form for all layers.
+#![tactic(auto)]
+
 ghost use Rattle.std.specs.Prelude.{◌≡◌};
 ghost use Rattle.refusals.specs.declared.Refusal.{Refusal};
 

@@ -1,6 +1,6 @@
 -- A typed bag has rows that fit its columns, no more than its limit, and is calm.
-use Rattle.std.proofs.Common.{◌≡◌, ℕ, zero, suc, ◌+◌, ◌<◌, ◌≤◌, true, false, eqb, List, [], ◌∷◌, ◌++◌, map, length, get_or, set, ℤ, pos, negsuc, Ok, filter, sym, refl, ap, ◌∙◌, subst, arith}
-use Rattle.refusals.specs.Rules.{or_else, refusal, unless, unless_none}
+use Rattle.std.proofs.Common.{◌≡◌, ℕ, zero, suc, ◌+◌, ◌<◌, ◌≤◌, true, eqb, List, [], ◌∷◌, length, get_or, set, ℤ, pos, negsuc, Ok, sym, ◌∙◌, subst, arith}
+use Rattle.refusals.specs.Rules.{or_else, refusal, unless_none}
 use Rattle.sources.specs.Shapes.{columns_of, within}
 use Rattle.sources.specs.Source.{Fits, Row}
 use Rattle.sources.specs.Unions.{fits_left, fits_right, hulls, hulls_length}
@@ -11,8 +11,7 @@ use Rattle.std.proofs.lemmas.List.Sums.{count_by-le-length, length-filter}
 use Rattle.std.proofs.lemmas.Bool.{eqb-true, false≢true}
 use Rattle.std.specs.List.{AllByRecursion as All}
 use Rattle.forms.specs.Calm.{CalmCondition, CalmTerm, PlaceBelow}
-use Rattle.forms.specs.Leaves.{BagWithin, CalmBag}
-use Rattle.forms.specs.Limits.{cells}
+use Rattle.forms.specs.Leaves.{BagWithin}
 use Rattle.forms.specs.Lined.{past}
 use Rattle.trees.specs.declared.Kind.TheVariants.{Bag}
 use Rattle.trees.specs.Meaning.{Inputs, holds, rows, value, with_cell}
@@ -23,7 +22,7 @@ use Rattle.rules.specs.Catalogue.{source_shape}
 use Rattle.rules.specs.Sound.{BagKept}
 use Rattle.rules.specs.Typing.{BagType, after, bag_rule, bag_typed, condition_typed, index, place, pooled, replaced, scope_rule, sensitivity_bound, settle, source_type, term_typed}
 use Rattle.rules.specs.declared.catalogue.Catalogue.{Catalogue}
-use Rattle.rules.proofs.Bounds.{In, in_within}
+use Rattle.rules.proofs.Bounds.{in_within}
 use Rattle.rules.proofs.Steps.{after_ok, after_two_ok, both_none, index_below, place_below, settle_ok}
 use Rattle.rules.proofs.Terms.{condition_kept, term_kept}
 

@@ -1,5 +1,5 @@
 -- What an operation gives lies within what the rules make of the ranges of its parts.
-use Rattle.std.proofs.Common.{◌≡◌, ℕ, zero, suc, ◌+◌, ◌*◌, ◌≤◌, true, false, ◌&&◌, leb, List, [], ◌∷◌, length, ℤ, pos, negsuc, ◌+ℤ◌, ◌-ℤ◌, ◌*ℤ◌, nat_abs, ◌≤ℤ◌, sym, refl, ap, ◌∙◌, subst, suc-mul, mul-le-mul_left, mul-add, arith}
+use Rattle.std.proofs.Common.{◌≡◌, ℕ, zero, suc, ◌≤◌, true, leb, List, [], ◌∷◌, length, ℤ, pos, negsuc, ◌+ℤ◌, ◌-ℤ◌, ◌*ℤ◌, nat_abs, ◌≤ℤ◌, sym, suc-mul, mul-le-mul_left, mul-add, arith}
 use borrow.Author.Differences.{at_most_in, down, le_out, le-true, product_is, true_is_le, up}
 use lib.IntN.{*ℤ_comm}
 use lib.Signed.{le_z}

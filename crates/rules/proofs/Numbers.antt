@@ -1,5 +1,5 @@
 -- A typed number has its value within its range, and is calm; and so the rules keep what they promise.
-use Rattle.std.proofs.Common.{◌≡◌, ℕ, zero, suc, ◌+◌, ◌<◌, ◌≤◌, max, Bool, true, false, ◌&&◌, List, [], ◌∷◌, length, get_or, ℤ, pos, negsuc, ◌+ℤ◌, ◌-ℤ◌, ◌*ℤ◌, nat_abs, Ok, refl, ap, subst, arith}
+use Rattle.std.proofs.Common.{◌≡◌, ℕ, zero, suc, ◌+◌, ◌<◌, ◌≤◌, max, Bool, true, ◌&&◌, List, [], ◌∷◌, length, get_or, ℤ, pos, negsuc, ◌+ℤ◌, ◌-ℤ◌, ◌*ℤ◌, nat_abs, Ok, refl, ap, subst, arith}
 use lib.Signed.{le_z, ≤ℤ_refl}
 use Rattle.refusals.specs.Rules.{or_else, or_else_none, refusal, unless, unless_none}
 use Rattle.sources.specs.Shapes.{column}

@@ -1,5 +1,5 @@
 -- Some queries with what the rules give them, on a catalogue with 8 rows of two columns and 3 rows of one.
-use Rattle.std.specs.Prelude.{◌≡◌, ℕ, [], ◌∷◌, ℤ, pos, negsuc, Ok, Err, Result}
+use Rattle.std.specs.Prelude.{◌≡◌, [], ◌∷◌, ℤ, pos, negsuc, Ok, Err, Result}
 use Rattle.refusals.specs.Rules.{refusal}
 use Rattle.refusals.specs.declared.Refusal.{Refusal}
 use Rattle.sources.specs.Shapes.{range}

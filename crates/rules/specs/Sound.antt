@@ -1,6 +1,5 @@
 -- What the rules promise: on a plant that fits the catalogue every value lies within its range, and evaluation stays within its bounds.
 use Rattle.std.specs.Prelude.{◌≡◌, ℕ, ◌≤◌, true, List, [], ◌∷◌, length, ℤ, Ok}
-use Rattle.refusals.specs.declared.Refusal.{Refusal}
 use Rattle.sources.specs.Shapes.{columns_of, within}
 use Rattle.sources.specs.Source.{Fits, Lawful, Meaning}
 use Rattle.sources.specs.declared.shapes.Range.{Range}

@@ -1,10 +1,10 @@
 -- The rules: what each form is given, and the first reason to refuse a query, forms in the order in which they close.
 -- A form is placed at the line that opens it; n is that line.
-use Rattle.std.specs.Prelude.{ℕ, ◌+◌, ◌*◌, max, Bool, true, false, cond, ◌&&◌, List, [], ◌∷◌, ◌++◌, map, length, drop, replicate, ℤ, pos, negsuc, Some, None, Ok, Err, Option, Result, ◌==◌, int_le, nat_le, slice_index_or, slice_set, unsigned_abs}
+use Rattle.std.specs.Prelude.{ℕ, ◌+◌, max, Bool, true, false, cond, ◌&&◌, List, ◌∷◌, length, drop, replicate, ℤ, pos, negsuc, Some, None, Ok, Err, Option, Result, ◌==◌, int_le, nat_le, slice_index_or, slice_set, unsigned_abs}
 use Rattle.refusals.specs.Rules.{or_else, refusal, unless}
 use Rattle.refusals.specs.declared.Refusal.{Refusal}
 use Rattle.sources.specs.Indexed.{listed}
-use Rattle.sources.specs.Shapes.{column, columns_of, range}
+use Rattle.sources.specs.Shapes.{column, columns_of}
 use Rattle.sources.specs.Unions.{hull, hulls}
 use Rattle.sources.specs.declared.shapes.Range.{Range}
 use Rattle.forms.specs.Limits.{number_bound, term_bound}

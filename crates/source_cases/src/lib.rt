@@ -1,3 +1,5 @@
+#![tactic(auto)]
+
 // Logs, ramps and unions at the edges of their bounds.
 #[cfg(test)]
 mod tests {

@@ -1,11 +1,11 @@
 -- A source given by functions: the range of each column, and the cell at each row and column.
-use Rattle.std.specs.Prelude.{◌≡◌, ℕ, zero, suc, ◌+◌, ◌<◌, ◌≤◌, true, List, [], map, ℤ, pos, slice_index_or}
+use Rattle.std.specs.Prelude.{◌≡◌, ℕ, zero, suc, ◌+◌, ◌<◌, ◌≤◌, true, [], map, ℤ, pos, slice_index_or}
 use Rattle.std.proofs.Common.{⊎_elim, ◌∙◌, ap, arith}
 use Rattle.std.proofs.lemmas.List.FromFn.{length-map-range_with_len}
 use Rattle.std.proofs.lemmas.Bool.{cases_lt}
 use Rattle.std.specs.List.{range_with_len}
 use Rattle.sources.specs.Indexed.{listed, listed_at, listed_past, all_listed}
-use Rattle.sources.specs.Shapes.{range, sound, within, column, max_width, max_rows}
+use Rattle.sources.specs.Shapes.{sound, within, max_width, max_rows}
 use Rattle.sources.specs.Source.{Row, Meaning, Lawful, Fits, count_of, cell_of}
 use Rattle.sources.specs.declared.shapes.Range.{Range}
 

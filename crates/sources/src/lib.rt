@@ -1,4 +1,6 @@
 // Sources of rows: what a source is, and logs, ramps and unions of sources.
+#![tactic(auto)]
+
 mod interface;
 mod logs;
 mod ramps;

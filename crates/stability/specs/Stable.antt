@@ -1,5 +1,5 @@
 -- How far two plants are apart at each input, and how far a query's value can move between them.
-use Rattle.std.specs.Prelude.{◌≡◌, ℕ, ◌+◌, ◌*◌, ◌≤◌, List, [], ℤ, pos, ◌-ℤ◌, Ok, slice_index_or, unsigned_abs}
+use Rattle.std.specs.Prelude.{◌≡◌, ℕ, ◌+◌, ◌*◌, ◌≤◌, [], ℤ, pos, ◌-ℤ◌, Ok, slice_index_or, unsigned_abs}
 use Rattle.bags.specs.Distance.{distance}
 use Rattle.rules.specs.Amounts.{amounts}
 use Rattle.rules.specs.Typing.{NumberType, number_typed}

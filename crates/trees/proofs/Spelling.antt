@@ -8,7 +8,7 @@ use Rattle.std.specs.Str.{bytes_eq}
 use Rattle.std.specs.Int.{IsInRange, is_in_range}
 use Rattle.trees.specs.declared.words.Word.{Word}
 use Rattle.trees.specs.declared.words.Word.TheVariants.{Bag, Keep, Put, Pool, Col, Lit, Plus, Times, Pick, Less, Equal, Either, Not, Num, Setting, Var, Count, Sum, Add, Sub, Least, Most, Scale, Clip, Let}
-use Rattle.trees.specs.Words.{entry, all_words, place, spelled_in, word_spelled, Names, SpelledApart}
+use Rattle.trees.specs.Words.{entry, all_words, spelled_in, word_spelled, Names, SpelledApart}
 
 pub found : (w : Word) → word_spelled (entry w).spelling ≡ Some w
 unfolding word_spelled
@@ -37,38 +37,6 @@ found Most = refl
 found Scale = refl
 found Clip = refl
 found Let = refl
-
--- the word at the place of a word
-standing : (w : Word) → get_or all_words (place w) Bag ≡ w
-standing Bag = refl
-standing Keep = refl
-standing Put = refl
-standing Pool = refl
-standing Col = refl
-standing Lit = refl
-standing Plus = refl
-standing Times = refl
-standing Pick = refl
-standing Less = refl
-standing Equal = refl
-standing Either = refl
-standing Not = refl
-standing Num = refl
-standing Setting = refl
-standing Var = refl
-standing Count = refl
-standing Sum = refl
-standing Add = refl
-standing Sub = refl
-standing Least = refl
-standing Most = refl
-standing Scale = refl
-standing Clip = refl
-standing Let = refl
-
--- no two words stand at one place
-pub placed_apart : (v w : Word) → place v ≡ place w → v ≡ w
-placed_apart v w e = sym (standing v) ∙ ap (λ i. get_or all_words i Bag) e ∙ standing w
 
 pub spelled_apart : SpelledApart
 spelled_apart v w e =

@@ -1,7 +1,6 @@
 -- What a query means: a term's value and a condition's truth on a row, a bag's rows, a number's value.
-use Rattle.std.specs.Prelude.{ℕ, Bool, cond, not as negated, ◌&&◌, ◌||◌, List, [], ◌∷◌, ◌++◌, map, length, ℤ, pos, negsuc, ◌+ℤ◌, ◌-ℤ◌, ◌*ℤ◌, fold, filter, int_le, int_lt, slice_index_or, slice_set}
+use Rattle.std.specs.Prelude.{Bool, cond, not as negated, ◌&&◌, ◌||◌, List, [], ◌∷◌, ◌++◌, map, length, ℤ, pos, negsuc, ◌+ℤ◌, ◌-ℤ◌, ◌*ℤ◌, filter, int_le, int_lt, slice_index_or, slice_set}
 use Rattle.std.specs.Int.{int_max, int_min}
-use Rattle.trees.specs.declared.Kind.{Kind}
 use Rattle.trees.specs.declared.Kind.TheVariants.{Term, Condition, Bag, Number}
 use Rattle.trees.specs.Tree.{Tree}
 use Rattle.trees.specs.Tree.Tree.{bag, keep, put, pool, col, lit, plus, times, pick, less, equal, either, not, num, setting, var, count, sum, add, sub, least, most, scale, clip, let_in}

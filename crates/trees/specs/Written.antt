@@ -52,7 +52,7 @@ WrittenExample =
     written (count (keep (bag (pos 0)) (less (col (pos 1)) (lit (negsuc 4)))))
     ≡ codes "(count\n(keep\n(bag 0)\n(less\n(col 1)\n(lit -5)\n)\n)\n)\n"
 
--- Two trees with the same written form are the same tree, of the same kind. Their numbers fit 64 bits: `signed` writes at most 64 digits.
+-- Two trees with the same written form are the same tree, of the same kind. Their numbers fit 64 bits: `signed_decimal` writes at most 64 digits.
 abbrev pub WrittenOnce : Type 0
 WrittenOnce = (k l : Kind) (t : Tree k) (u : Tree l) → NumbersWithin (2 ^ 63 - 1) t → NumbersWithin (2 ^ 63 - 1) u → written t ≡ written u → any t ≡ any u
 

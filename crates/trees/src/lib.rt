@@ -1,4 +1,6 @@
 // What a query is: forms of four kinds, each of one of 25 words. The tree, its meaning and its written form are in specs/.
+#![tactic(auto)]
+
 pub mod laws;
 pub mod words;
 

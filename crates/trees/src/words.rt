@@ -1,6 +1,6 @@
 // The words of a query, by one table: how each is spelled, what its form gives, and what stands in it.
 ghost use Rattle.std.specs.Prelude.{◌≡◌, ◌==◌, Decides};
-ghost use Rattle.trees.specs.Words.{entry, all_words, place, spelled_in, word_spelled, Names, SpelledApart};
+ghost use Rattle.trees.specs.Words.{entry, all_words, spelled_in, word_index, word_spelled, IndexedApart, Names, SpelledApart};
 ghost use Rattle.std.specs.Cmp.Rules.{comparing};
 ghost use Rattle.std.proofs.Common.{rules};
 ghost use Rattle.std.specs.Ordering.{on};
@@ -38,13 +38,14 @@ pub enum Word {
 }
 
 impl PartialEq for Word {
-    ghost eq = { on place ◌==◌ };
+    ghost eq = { on word_index ◌==◌ };
 
     ghost laws = { Keys.partial_equiv_from_equiv (Prim.search (comparing, rules)) };
 
     fn eq(&self, other: &Word) -> bool
-        ensures value { result ≡ on place ◌==◌ self.now other.now }
+        ensures value { result ≡ on word_index ◌==◌ self.now other.now }
         ensures same { Decides result (self.now ≡ other.now) }
+        ensures apart { IndexedApart }
     {
         *self as u8 == *other as u8
     }
@@ -217,6 +218,6 @@ mod tests {
     fn what_stands_in_a_form(rt: HostRuntime) {
         assert_eq!(rt; Word::Pick.kind(), Kind::Term);
         assert_eq!(rt; Word::Clip.numbers(), 2);
-        assert!(rt; Word::Pick.parts() == [Kind::Condition, Kind::Term, Kind::Term]);
+        assert!(rt; Word::Pick.parts() == [Kind::Condition, Kind::Term, Kind::Term].as_slice());
     }
 }

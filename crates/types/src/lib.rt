@@ -1,4 +1,6 @@
 // What the rules give bags and numbers, and what each word makes of it; and the faults of the rules.
+#![tactic(auto)]
+
 pub mod bag;
 pub mod fault;
 pub mod limits;

@@ -1,5 +1,5 @@
 -- The type of a bag, from those of its parts.
-use Rattle.std.proofs.Common.{◌≡◌, ℕ, ◌+◌, ◌<◌, eqb, List, [], ◌∷◌, length, drop, ℤ, Ok, Err, Result, refl, ap, ◌∙◌, arith}
+use Rattle.std.proofs.Common.{◌≡◌, ℕ, ◌+◌, ◌<◌, eqb, ◌∷◌, length, drop, ℤ, Ok, Err, Result, refl, ap, ◌∙◌, arith}
 use Rattle.refusals.specs.Rules.{or_else}
 use Rattle.refusals.specs.declared.Refusal.{Refusal}
 use Rattle.sources.specs.declared.shapes.Range.{Range}

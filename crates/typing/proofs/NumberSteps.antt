@@ -1,5 +1,5 @@
 -- The type of a number, from those of its parts.
-use Rattle.std.proofs.Common.{◌≡◌, ℕ, suc, ◌+◌, ◌<◌, ◌≤◌, max, Bool, true, ◌&&◌, List, [], ◌∷◌, ◌++◌, length, drop, ℤ, nat_abs, is_some, None, Ok, Err, Result, sym, refl, ap, ◌∙◌, subst, arith}
+use Rattle.std.proofs.Common.{◌≡◌, ℕ, suc, ◌+◌, ◌<◌, ◌≤◌, max, true, ◌&&◌, List, [], ◌∷◌, ◌++◌, length, drop, ℤ, nat_abs, is_some, None, Ok, Err, Result, sym, refl, ap, ◌∙◌, subst, arith}
 use lib.Signed.{le_z}
 use Rattle.refusals.specs.Rules.{or_else, or_else_none, refusal, unless, unless_none}
 use Rattle.refusals.specs.declared.Refusal.{Refusal}

@@ -1,5 +1,5 @@
 -- One stage behind another: a refusal stands, and a type goes on.
-use Rattle.std.proofs.Common.{◌≡◌, ℕ, Ok, Err, Result, refl, ap, ap₂, arith}
+use Rattle.std.proofs.Common.{◌≡◌, ℕ, Ok, Err, Result, ap, ap₂, arith}
 use Rattle.refusals.specs.declared.Refusal.{Refusal}
 use Rattle.rules.specs.Typing.{after, after_two}
 

@@ -1,5 +1,5 @@
 -- A form of each word, taken apart.
-use Rattle.std.proofs.Common.{◌≡◌, ℕ, suc, List, ℤ, sym, ap, ◌∙◌, arith}
+use Rattle.std.proofs.Common.{◌≡◌, ℕ, suc, List, ℤ, sym, ap, ◌∙◌}
 use Rattle.trees.specs.declared.Kind.{Kind}
 use Rattle.trees.specs.declared.Kind.TheVariants.{Bag, Condition, Number, Term}
 use Rattle.trees.specs.Size.{size}

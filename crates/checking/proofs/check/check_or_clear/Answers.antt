@@ -1,4 +1,4 @@
-use Rattle.std.proofs.Common.{◌≡◌, Bool, true, leb, length, ap, arith}
+use Rattle.std.proofs.Common.{Bool, length, ap, arith}
 use Rattle.refusals.specs.Rules.{unless}
 use Rattle.std.proofs.lemmas.Bool.{le-leb}
 use Rattle.forms.specs.Limits.{room}

@@ -15,7 +15,7 @@ fits_bench : (p : Plant) (k : Catalogue) → k ≡ bench_catalogue → Fitting k
 fits_bench p k e h = subst (λ (x : Catalogue). Fitting x p) e h
 
 pub evaluate-requires : goal.evaluate-requires
-evaluate-requires c =
+evaluate-requires g c =
     record {
       few = omega arith;
       typed = (
@@ -37,7 +37,7 @@ evaluate-requires c =
             (record { line = refl; order = refl }, record { line = refl; order = refl }, record { line = refl; order = refl }),
           );
           typed = typed.1;
-          fits = fits_bench _ c.bench_catalogue.result c.bench_catalogue.ensures (c.in-Ok.ensures.exactly.0 refl);
+          fits = fits_bench _ c.bench-catalogue.result c.bench-catalogue.ensures (c.in-Ok.ensures.exactly.0 refl);
         },
       );
     }

@@ -4,16 +4,16 @@ use Rattle.forms.proofs.tests.a_put_above_a_keep_above_a_pool.Goals as goal
 
 pub find_route-requires : goal.find_route-requires
 unfolding part_at parts parts_from
-find_route-requires c = record { few = omega arith; is = (_, refl) }
+find_route-requires g c = record { few = omega arith; is = (_, refl) }
 
 pub find_route-requires-2 : goal.find_route-requires-2
 unfolding part_at parts parts_from
-find_route-requires-2 c = record { few = omega arith; is = (_, refl) }
+find_route-requires-2 g c = record { few = omega arith; is = (_, refl) }
 
 pub carry-requires : goal.carry-requires
 unfolding part_at parts parts_from
-carry-requires c = (_, (c.in-Some.ensures _ refl).1.leads, ((((0, refl, omega arith), omega arith), omega arith), (((0, refl, omega arith), omega arith), tt)))
+carry-requires g c = (_, (c.in-Some.ensures _ refl).1.leads, ((((0, refl, omega arith), omega arith), omega arith), (((0, refl, omega arith), omega arith), tt)))
 
 pub carry-requires-2 : goal.carry-requires-2
 unfolding part_at parts parts_from
-carry-requires-2 c = (_, (c.in-Some.ensures _ refl).1.leads, ((((0, refl, omega arith), omega arith), omega arith), tt))
+carry-requires-2 g c = (_, (c.in-Some.ensures _ refl).1.leads, ((((0, refl, omega arith), omega arith), omega arith), tt))

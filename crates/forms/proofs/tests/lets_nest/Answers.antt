@@ -12,7 +12,7 @@ calm : CalmNumber tree (inputs [] (pos 1 ∷ pos 4 ∷ [])) []
 calm = (omega arith, ((omega arith, ((0, refl, omega arith), omega arith), ((1, refl, omega arith), omega arith)), (omega arith, ((1, refl, omega arith), omega arith), ((0, refl, omega arith), omega arith))))
 
 pub number-requires : goal.number-requires
-number-requires c =
+number-requires g c =
     record {
       few = omega arith;
       spare = omega (arith, c.new.ensures.spare);

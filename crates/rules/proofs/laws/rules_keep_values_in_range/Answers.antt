@@ -1,10 +1,9 @@
-use Rattle.std.proofs.Common.{◌≡◌, ℕ, zero, suc, ◌<◌, List, [], ◌∷◌, length, get_or, pos, sym, refl, ap, ◌∙◌, subst, arith}
-use Rattle.sources.specs.Source.{Fits, Lawful, Meaning}
-use Rattle.sources.specs.Shapes.{columns_of}
+use Rattle.std.proofs.Common.{ℕ, zero, suc, ◌<◌, [], length, get_or, pos, refl, ap, subst, arith}
+use Rattle.sources.specs.Source.{Fits}
 use Rattle.std.specs.List.{AllByRecursion as All}
 use Rattle.trees.specs.Meaning.{number, value}
-use Rattle.rules.specs.Catalogue.{setting_range, source_shape}
-use Rattle.rules.specs.Sound.{Fitting, Plant, RulesKeep, ShapedAs, inputs_of}
+use Rattle.rules.specs.Catalogue.{setting_range}
+use Rattle.rules.specs.Sound.{Fitting, Plant, RulesKeep, inputs_of}
 use Rattle.rules.specs.declared.catalogue.Catalogue.{Catalogue}
 use Rattle.rules.proofs.Bags.{RowsFit, bag_kept}
 use Rattle.rules.proofs.Bounds.{In, in_within, within_in}

@@ -1,5 +1,5 @@
 -- Each arm takes the bag apart, and joins what the calls on its parts ensure.
-use Rattle.std.proofs.Common.{◌≡◌, ℕ, ◌+◌, ◌*◌, ◌<◌, ◌≤◌, true, eqb, List, [], ◌∷◌, ◌++◌, length, drop, ℤ, Ok, Result, sym, refl, ap, ◌∙◌, subst, ap₂, arith, w64, rules}
+use Rattle.std.proofs.Common.{◌≡◌, ℕ, ◌+◌, ◌*◌, ◌≤◌, true, eqb, List, [], ◌∷◌, ◌++◌, length, drop, ℤ, Ok, Result, sym, refl, ap, ◌∙◌, subst, ap₂, arith, w64, rules}
 use Rattle.refusals.specs.Rules.{or_else}
 use Rattle.refusals.specs.declared.Refusal.{Refusal}
 use Rattle.sources.specs.Shapes.{columns_of, max_rows}
@@ -13,14 +13,12 @@ use Rattle.rules.specs.Amounts.{at_most}
 use Rattle.rules.specs.Typing.{BagType, bag_rule, bag_typed, index, place, pooled, replaced, scope_rule, sensitivity_bound, settle, source_type}
 use Rattle.trees.specs.Size.{size}
 use Rattle.trees.specs.Tree.Tree.{bag, pool, put}
-use Rattle.types.specs.Faults.{told}
 use Rattle.types.specs.Shown.{BagGood, bag_shown}
 use Rattle.types.specs.declared.bag.TypedBag.{TypedBag}
 use Rattle.typing.specs.Bags.{BagDrafted, Few}
 use Rattle.typing.specs.Notes.{bag_note, bag_notes, columns_in, condition_notes, noted, noted_at, of_bag, term_notes}
-use Rattle.typing.specs.declared.note.Note.{Note}
 use Rattle.typing.proofs.BagSteps.{bag_own, bag_some, keep_goes, keep_stops, keep_stops_later, pool_goes, pool_stops, pool_stops_later, put_goes, put_stops, put_stops_later}
-use Rattle.typing.proofs.Lengths.{bag_count, condition_count, sum_two, term_count}
+use Rattle.typing.proofs.Lengths.{bag_count, sum_two}
 use Rattle.typing.proofs.Noting.{noted_both, noted_none, noted_whole}
 use Rattle.typing.proofs.Replies.{replied}
 use Rattle.typing.proofs.Splits.{opens, within}

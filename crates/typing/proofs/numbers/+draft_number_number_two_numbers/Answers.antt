@@ -1,7 +1,6 @@
 -- Each arm takes the number apart, and joins what the calls on its parts ensure.
-use Rattle.std.proofs.Common.{◌≡◌, ℕ, ◌+◌, ◌-◌, ◌*◌, ◌<◌, ◌≤◌, max, true, List, [], ◌∷◌, ◌++◌, length, drop, ℤ, nat_abs, None, Ok, Option, Result, sym, refl, ap, ◌∙◌, subst, ap₂, arith, w64, rules}
+use Rattle.std.proofs.Common.{◌≡◌, ℕ, ◌+◌, ◌-◌, ◌<◌, ◌≤◌, max, List, [], ◌∷◌, ◌++◌, length, drop, ℤ, nat_abs, None, Ok, Option, Result, sym, refl, ap, ◌∙◌, subst, ap₂, arith, w64, rules}
 use lib.Signed.{le_z}
-use Rattle.refusals.specs.Rules.{or_else}
 use Rattle.refusals.specs.declared.Refusal.{Refusal}
 use Rattle.sources.specs.Shapes.{columns_of}
 use Rattle.sources.specs.declared.shapes.Range.{Range}
@@ -15,14 +14,12 @@ use Rattle.rules.specs.Catalogue.{setting_range}
 use Rattle.rules.specs.Ranges.{differences, greater, lesser, point, sums, totals}
 use Rattle.rules.specs.Typing.{NumberType, bag_typed, cut, index, multiple, number_rule, number_typed, place, scope_rule, settle, unbound, variable}
 use Rattle.trees.specs.Size.{NumbersWithin, depth, literal_bound, size}
-use Rattle.trees.specs.Tree.Tree.{num, setting, var, sum, add, sub, least, most, clip, let_in}
-use Rattle.types.specs.Faults.{told}
+use Rattle.trees.specs.Tree.Tree.{num, setting, var, add, sub, least, most, let_in}
 use Rattle.types.specs.Shown.{NumberGood, in_scope, number_shown, spare}
 use Rattle.types.specs.declared.variables.Variables.{Variables}
 use Rattle.typing.specs.Notes.{bag_notes, columns_in, noted, noted_at, number_note, number_notes, of_number, range_in, term_notes}
 use Rattle.typing.specs.Numbers.{NumberAt, NumberDrafted}
 use Rattle.typing.specs.Told.{Drafted, FormAt}
-use Rattle.typing.specs.declared.note.Note.{Note}
 use Rattle.typing.proofs.Lengths.{bag_count, number_count}
 use Rattle.typing.proofs.Noting.{noted_both, noted_none, noted_whole}
 use Rattle.typing.proofs.NumberSteps.{clip_goes, clip_stops, count_goes, count_stops, let_goes, let_stops, let_stops_later, number_own, number_some, numbers_two, pair_goes, pair_stops, scale_goes, scale_stops, settled_good, small_one, small_two, sum_goes, sum_stops, sum_stops_later}

@@ -1,6 +1,5 @@
 -- Each arm takes the form apart, and joins what the calls on its parts ensure.
-use Rattle.std.proofs.Common.{◌≡◌, ℕ, ◌+◌, ◌<◌, ◌≤◌, true, List, [], ◌∷◌, ◌++◌, length, drop, ℤ, None, Ok, Option, Result, sym, refl, ap, ◌∙◌, subst, ap₂, arith, w64, rules}
-use Rattle.refusals.specs.Rules.{reason}
+use Rattle.std.proofs.Common.{◌≡◌, ℕ, ◌+◌, ◌≤◌, List, [], ◌∷◌, ◌++◌, length, drop, ℤ, None, Ok, Option, Result, sym, refl, ap, ◌∙◌, subst, ap₂, arith, w64, rules}
 use Rattle.refusals.specs.declared.Refusal.{Refusal}
 use Rattle.sources.specs.Shapes.{column, columns_of}
 use Rattle.std.proofs.lemmas.Result.{err_from_is_err_and}
@@ -13,10 +12,8 @@ use Rattle.rules.specs.Typing.{condition_typed, index, place, scope_rule, settle
 use Rattle.trees.specs.Size.{size}
 use Rattle.trees.specs.Tree.Tree.{col, lit}
 use Rattle.sources.specs.declared.shapes.Range.{Range}
-use Rattle.types.specs.Faults.{rule_refusal, told}
 use Rattle.typing.specs.Notes.{condition_note, condition_notes, noted, noted_at, term_note, term_notes}
 use Rattle.typing.specs.Terms.{ConditionDrafted, TermDrafted}
-use Rattle.typing.specs.Told.{Drafted, FormAt}
 use Rattle.typing.specs.declared.note.Note.{Note}
 use Rattle.typing.proofs.Lengths.{condition_count, term_count}
 use Rattle.typing.proofs.Noting.{noted_more, noted_none, noted_whole}

@@ -1,4 +1,4 @@
-use Rattle.std.proofs.Common.{◌≡◌, ℕ, ◌<◌, Bool, true, false, length, ℤ, pos, sym, ap, ◌∙◌, subst, w64, to_z, of_z}
+use Rattle.std.proofs.Common.{◌≡◌, ℕ, Bool, true, false, length, ℤ, pos, sym, ap, ◌∙◌, w64}
 use Rattle.rules.specs.Typing.{index, place, scope_rule, settle}
 use Rattle.sources.specs.Indexed.{listed_at}
 use Rattle.sources.specs.Shapes.{column, columns_of, range}

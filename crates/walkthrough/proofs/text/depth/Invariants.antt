@@ -1,4 +1,4 @@
-use Rattle.std.proofs.Common.{◌≡◌, ◌≤◌, max, length, drop}
+use Rattle.std.proofs.Common.{◌≡◌, ◌≤◌, max, drop}
 use Rattle.walkthrough.specs.Nesting.{nesting}
 use Rattle.walkthrough.proofs.text.depth.Given as goal
 

@@ -1,12 +1,12 @@
 -- The text spells a tree, which is typed where it stands.
-use Rattle.std.proofs.Common.{◌≡◌, ℕ, List, [], Ok, sym, ap, ◌∙◌, subst, ap₂, arith}
+use Rattle.std.proofs.Common.{ℕ, List, Ok, sym, ap, ◌∙◌, subst, arith}
 use Rattle.std.proofs.lemmas.Result.{err_from_is_err_and}
 use Rattle.sources.specs.declared.shapes.Range.{Range}
 use Rattle.forms.specs.declared.form.Entry.{Entry}
 use Rattle.forms.specs.Held.{held}
 use Rattle.reading.specs.Law.{HoldsLined}
-use Rattle.rules.specs.Typing.{NumberType, number_typed}
-use Rattle.types.specs.Shown.{in_scope, number_shown, spare}
+use Rattle.rules.specs.Typing.{number_typed}
+use Rattle.types.specs.Shown.{number_shown}
 use Rattle.typing.proofs.NumberSteps.{number_some}
 use Rattle.typing.specs.Notes.{noted_at, number_notes}
 use Rattle.checking.proofs.Whole.{at_start, whole}
