@@ -6,7 +6,7 @@ use Rattle.std.proofs.lemmas.Int.{ints}
 use Rattle.std.proofs.lemmas.List.Sorted.{sum_by-IsPermutation}
 use Rattle.std.proofs.lemmas.List.Sums.{sum_by-append, sum_by-cons}
 use Rattle.std.proofs.lemmas.Bool.{and_from, and_parts, both_ways}
-use Rattle.std.specs.List.{AllByRecursion as All}
+use Rattle.std.specs.List.{AllByRecursion}
 use Rattle.std.specs.List.Sorted.{IsPermutation}
 use Rattle.sources.specs.Source.{Row}
 use Rattle.bags.specs.Distance.{different, equal, same, times}
@@ -86,7 +86,7 @@ times_same z x xs e = times_cons z x xs ∙ ap (λ b. cond b 1 0 + times z xs) e
 pub times_other : (z x : Row) (xs : List Row) → same z x ≡ false → times z (x ∷ xs) ≡ times z xs
 times_other z x xs e = times_cons z x xs ∙ ap (λ b. cond b 1 0 + times z xs) e ∙ omega arith
 
-pub times_absent : (x : Row) (xs : List Row) → All (λ y. same x y ≡ false) xs → times x xs ≡ 0
+pub times_absent : (x : Row) (xs : List Row) → AllByRecursion (λ y. same x y ≡ false) xs → times x xs ≡ 0
 times_absent x [] h = times_none x
 times_absent x (y ∷ ys) h = times_other x y ys h.0 ∙ times_absent x ys h.1
 

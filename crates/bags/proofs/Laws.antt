@@ -4,7 +4,7 @@ use lib.ListN.{length-map}
 use Rattle.std.proofs.lemmas.Int.{ints}
 use Rattle.std.proofs.lemmas.List.Sums.{sum_by-cons}
 use Rattle.std.proofs.ByRecursion.{sum_by_le}
-use Rattle.std.specs.List.{AllByRecursion as All}
+use Rattle.std.specs.List.{AllByRecursion}
 use Rattle.std.specs.List.Sorted.{IsPermutation}
 use Rattle.sources.specs.Source.{Row}
 use Rattle.bags.specs.Distance.{distance, missing, same, times}
@@ -58,7 +58,7 @@ missing_most xs ys = missing_least xs xs ys (λ z. omega arith)
 missing_sum : (g : Row → ℕ) (m : ℕ) → ((r : Row) → g r ≤ m) → (xs ys : List Row) → sum_by g xs ≤ sum_by g ys + m * missing xs ys
 missing_sum g m h xs ys = omega (arith, sum_lost g xs ys, sum_by_le g m (lost xs ys) (each (lost xs ys)), ap (λ n. n * m) (missing_is xs ys), mul_comm m (missing xs ys))
   where
-    each : (l : List Row) → All (λ r. g r ≤ m) l
+    each : (l : List Row) → AllByRecursion (λ r. g r ≤ m) l
     each [] = tt
     each (r ∷ l) = (h r, each l)
 

@@ -1,7 +1,7 @@
 -- What two bags share: each bag is what it shares and what the other lacks of it.
 use Rattle.std.proofs.Common.{◌≡◌, ℕ, ◌+◌, ◌-◌, ◌≤◌, min, Bool, true, false, List, [], ◌∷◌, ◌++◌, map, length, sum_by, sym, refl, ap, ◌∙◌, mul-one, arith}
 use lib.ListN.{length-map}
-use Rattle.std.specs.List.{AllByRecursion as All}
+use Rattle.std.specs.List.{AllByRecursion}
 use Rattle.sources.specs.Source.{Row}
 use Rattle.bags.specs.Distance.{Pairs, different, missing, same, shared, times}
 use Rattle.bags.specs.Order.{SameBag}
@@ -73,17 +73,17 @@ shared_both x xs ys =
     let many = missing_alike (x ∷ xs) (x ∷ ys) xs ys (λ z. omega (arith, times_cons z x xs, times_cons z x ys)) in
     omega (arith, first_shared (x ∷ xs) (x ∷ ys), first_shared xs ys)
 
-pub shared_absent : (xs ys : List Row) → All (λ x. times x ys ≡ 0) xs → shared xs ys ≡ 0
+pub shared_absent : (xs ys : List Row) → AllByRecursion (λ x. times x ys ≡ 0) xs → shared xs ys ≡ 0
 shared_absent [] ys h = shared_none ys
 shared_absent (x ∷ xs) ys h = shared_other x xs ys h.0 ∙ shared_absent xs ys h.1
 
 -- ---- rows mapped by a function that another undoes
 
-back : (f g : Row → Row) (xs : List Row) → All (λ x. g (f x) ≡ x) xs → map g (map f xs) ≡ xs
+back : (f g : Row → Row) (xs : List Row) → AllByRecursion (λ x. g (f x) ≡ x) xs → map g (map f xs) ≡ xs
 back f g [] h = refl
 back f g (x ∷ xs) h = λ i. h.0 i ∷ back f g xs h.1 i
 
-pub shared_mapped : (f g : Row → Row) (xs ys : List Row) → All (λ x. g (f x) ≡ x) xs → All (λ y. g (f y) ≡ y) ys → shared (map f xs) (map f ys) ≡ shared xs ys
+pub shared_mapped : (f g : Row → Row) (xs ys : List Row) → AllByRecursion (λ x. g (f x) ≡ x) xs → AllByRecursion (λ y. g (f y) ≡ y) ys → shared (map f xs) (map f ys) ≡ shared xs ys
 shared_mapped f g xs ys p q =
     let few = missing_steady.mapped f xs ys in
     let many : missing xs ys ≤ missing (map f xs) (map f ys) = rw (back f g xs p, back f g ys q) at (missing_steady.mapped g (map f xs) (map f ys)) in

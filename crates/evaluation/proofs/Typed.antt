@@ -24,7 +24,7 @@ use Rattle.std.proofs.ByRecursion.{All-append, All-get_or, All-map, All-weaker}
 use Rattle.std.proofs.lemmas.List.{get_or-map, length-map, length-set, take_all, take_more}
 use Rattle.std.proofs.lemmas.Int.{ints}
 use Rattle.std.proofs.lemmas.Bool.{eqb-true}
-use Rattle.std.specs.List.{AllByRecursion as All}
+use Rattle.std.specs.List.{AllByRecursion}
 use Rattle.trees.specs.Meaning.{Row, at, rows, total}
 use Rattle.trees.specs.Tree.Tree.{bag, keep, put, pool}
 use Rattle.evaluation.specs.Addends.{CalmAddends, added}
@@ -38,10 +38,10 @@ use Rattle.evaluation.proofs.Partial.{partial_bounded}
 abbrev Names : Catalogue → ℕ → Leaf → Type 0
 Names c width l = (k : ℕ) × (l.source ≡ pos k) × (k < 2) × (length (columns_of (source_shape c k)) ≡ width)
 
-names_through : (c : Catalogue) (v w : ℕ) → v ≡ w → (s : Step) (ls : List Leaf) → All (Names c v) ls → All (Names c w) (map (through s) ls)
+names_through : (c : Catalogue) (v w : ℕ) → v ≡ w → (s : Step) (ls : List Leaf) → AllByRecursion (Names c v) ls → AllByRecursion (Names c w) (map (through s) ls)
 names_through c v w e s ls h = All-map (Names c w) (through s) ls (All-weaker (Names c v) (λ l. Names c w (through s l)) (λ l (k, is, below, wide). (k, is, below, wide ∙ e)) ls h)
 
-named : (c : Catalogue) (b : BagTree) (n : ℕ) (x : BagType) → bag_typed n c b ≡ Ok x → All (Names c (length x.columns)) (leaves b)
+named : (c : Catalogue) (b : BagTree) (n : ℕ) (x : BagType) → bag_typed n c b ≡ Ok x → AllByRecursion (Names c (length x.columns)) (leaves b)
 named c (bag k) n x e =
     let s = settle_ok (scope_rule n (place 2 k)) (source_type c (index k)) x e in
     let (i, is, below) = place_below 2 k (unless_none (place 2 k) (refusal 11 n 0) s.0) in
@@ -84,7 +84,7 @@ calm_addends es (Clipped lo hi q) p b x (line, t, y, is, typed, order, bound) ke
     let ls = leaves b in
     let l = get_or ls n no_leaf in
     let calm : CalmBag (put (pos 0) b t) ss = (kept.calm, (0, refl, omega arith), All-weaker (Fits x.columns) (CalmTerm t) (terms line t y typed) (rows b ss) kept.some_rows) in
-    let Calmly = λ (k : Leaf). All (CalmWay k.way) (at ss k.source []) in
+    let Calmly = λ (k : Leaf). AllByRecursion (CalmWay k.way) (at ss k.source []) in
     let there : n < length (map (through s) ls) = omega (arith, length-map ls (through s)) in
     let up : Calmly (through s l) = subst Calmly (get_or-map (through s) ls n no_leaf no_leaf h) (All-get_or Calmly (map (through s) ls) n no_leaf there ((spread (put (pos 0) b t)).calm ss calm)) in
     (t, is, All-weaker (CalmWay (l.way ++ s ∷ [])) (λ r. CalmFrom (CalmTerm t) (carried l.way r)) (λ r k. calm_from (CalmStep s) (CalmTerm t) (λ _ m. m.1) (carried l.way r) (calm_split l.way s r k).1) (at ss l.source []) up)
@@ -111,7 +111,7 @@ module _ (es : List Entry) (bag : ℕ) (a : Addend) (p : Plant) (h : AddsBag es 
         rows = record {
           leads = follows.leads;
           places = subst (λ w. WayWithin w l.way) (sym same) places;
-          calm = All-get_or (λ (m : Leaf). All (CalmWay m.way) (at ss m.source [])) (leaves b) n no_leaf there ((spread b).calm ss kept.calm);
+          calm = All-get_or (λ (m : Leaf). AllByRecursion (CalmWay m.way) (at ss m.source [])) (leaves b) n no_leaf there ((spread b).calm ss kept.calm);
           addends = calm_addends es a p b x h.addend kept (λ m t y e. (h.kept.terms m x.columns t y kept.few_columns e).calm) n there;
           bounded = λ i _. rw so_far (partial_bounded es a x h.addend b ss kept.few_rows n there i);
         };

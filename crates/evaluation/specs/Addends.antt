@@ -1,6 +1,6 @@
 -- What a count or a sum adds for the rows of its bag.
 use Rattle.std.specs.Prelude.{◌≡◌, ℕ, ◌≤◌, List, length, take, ℤ, pos, ◌+ℤ◌, Some, None, Option}
-use Rattle.std.specs.List.{AllByRecursion as All}
+use Rattle.std.specs.List.{AllByRecursion}
 use Rattle.forms.specs.declared.form.Entry.{Entry}
 use Rattle.forms.specs.declared.form.Form.{Form}
 use Rattle.forms.specs.declared.form.Form.TheVariants as form
@@ -62,7 +62,7 @@ CalmAddend es (Clipped lo hi p) r = CalmTermAt es p r
 -- the same of every row that arrives, for one term
 abbrev pub CalmAddends : List Entry → Addend → List Step → List Row → Type 0
 CalmAddends es One way rows = Unit {0}
-CalmAddends es (Clipped lo hi p) way rows = (t : TermTree) × (part_at es p ≡ a_term t) × All (λ r. CalmFrom (CalmTerm t) (carried way r)) rows
+CalmAddends es (Clipped lo hi p) way rows = (t : TermTree) × (part_at es p ≡ a_term t) × AllByRecursion (λ r. CalmFrom (CalmTerm t) (carried way r)) rows
 
 -- what is added for a row of a leaf's source, from which it goes a way to the top
 abbrev pub from_leaf : List Entry → Addend → List Step → Row → ℤ
@@ -79,6 +79,6 @@ pub record AddsRow (es : List Entry) (a : Addend) (steps : List ℕ) (row : Row)
 pub record AddsRows (es : List Entry) (a : Addend) (steps : List ℕ) (width : ℕ) (rows : List Row) (sum : ℤ) (way : List Step) : Type 0 where
   pub leads : Leads es steps way
   pub places : WayWithin width way
-  pub calm : All (CalmWay way) rows
+  pub calm : AllByRecursion (CalmWay way) rows
   pub addends : CalmAddends es a way rows
   pub bounded : (i : ℕ) → i ≤ length rows → Within number_bound (sum +ℤ total (from_leaf es a way) (take i rows))

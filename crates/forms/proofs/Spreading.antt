@@ -1,7 +1,7 @@
 -- What is so of every row of a bag is so of what its leaves carry up.
 use Rattle.std.proofs.Common.{ℕ, Bool, true, false, cond, List, [], ◌∷◌, ◌++◌, map, Some, None, filter, Option, sym, subst}
 use Rattle.std.proofs.ByRecursion.{All-append, All-map, All-weaker}
-use Rattle.std.specs.List.{AllByRecursion as All}
+use Rattle.std.specs.List.{AllByRecursion}
 use Rattle.trees.specs.Meaning.{Row, at, holds, rows, value, with_cell}
 use Rattle.trees.specs.Tree.Tree.{bag, keep, put, pool}
 use Rattle.forms.specs.Calm.{CalmTerm}
@@ -10,47 +10,47 @@ use Rattle.forms.specs.Leaves.Step.{keeps, puts}
 use Rattle.forms.specs.Table.{BagTree}
 use Rattle.forms.proofs.Arrivals.{all_arrive, all_counted, carried_push}
 
-all_first : {X : Type 0} (P : X → Type 0) (xs ys : List X) → All P (xs ++ ys) → All P xs
+all_first : {X : Type 0} (P : X → Type 0) (xs ys : List X) → AllByRecursion P (xs ++ ys) → AllByRecursion P xs
 all_first P [] ys h = tt
 all_first P (x ∷ xs) ys h = (h.0, all_first P xs ys h.1)
 
-all_second : {X : Type 0} (P : X → Type 0) (xs ys : List X) → All P (xs ++ ys) → All P ys
+all_second : {X : Type 0} (P : X → Type 0) (xs ys : List X) → AllByRecursion P (xs ++ ys) → AllByRecursion P ys
 all_second P [] ys h = h
 all_second P (x ∷ xs) ys h = all_second P xs ys h.1
 
-all_both : {X : Type 0} (P Q R : X → Type 0) → ((x : X) → P x → Q x → R x) → (xs : List X) → All P xs → All Q xs → All R xs
+all_both : {X : Type 0} (P Q R : X → Type 0) → ((x : X) → P x → Q x → R x) → (xs : List X) → AllByRecursion P xs → AllByRecursion Q xs → AllByRecursion R xs
 all_both P Q R f [] h k = tt
 all_both P Q R f (x ∷ xs) h k = (f x h.0 k.0, all_both P Q R f xs h.1 k.1)
 
-all_every : {X : Type 0} (P : X → Type 0) → ((x : X) → P x) → (xs : List X) → All P xs
+all_every : {X : Type 0} (P : X → Type 0) → ((x : X) → P x) → (xs : List X) → AllByRecursion P xs
 all_every P f [] = tt
 all_every P f (x ∷ xs) = (f x, all_every P f xs)
 
-unkept : (P : Row → Type 0) (p : Row → Bool) (rs : List Row) → All P (filter p rs) → All (λ r. CalmFrom P (cond (p r) (Some r) None)) rs
+unkept : (P : Row → Type 0) (p : Row → Bool) (rs : List Row) → AllByRecursion P (filter p rs) → AllByRecursion (λ r. CalmFrom P (cond (p r) (Some r) None)) rs
 unkept P p [] h = tt
 unkept P p (r ∷ rs) h = go (p r) h (unkept P p rs)
   where
-    go : (b : Bool) → All P (cond b (r ∷ filter p rs) (filter p rs)) → (All P (filter p rs) → All (λ r. CalmFrom P (cond (p r) (Some r) None)) rs) → CalmFrom P (cond b (Some r) None) × All (λ r. CalmFrom P (cond (p r) (Some r) None)) rs
+    go : (b : Bool) → AllByRecursion P (cond b (r ∷ filter p rs) (filter p rs)) → (AllByRecursion P (filter p rs) → AllByRecursion (λ r. CalmFrom P (cond (p r) (Some r) None)) rs) → CalmFrom P (cond b (Some r) None) × AllByRecursion (λ r. CalmFrom P (cond (p r) (Some r) None)) rs
     go true h f = (h.0, f h.1)
     go false h f = (tt, f h)
 
-unmapped : (P : Row → Type 0) (f : Row → Row) (rs : List Row) → All P (map f rs) → All (λ r. P (f r)) rs
+unmapped : (P : Row → Type 0) (f : Row → Row) (rs : List Row) → AllByRecursion P (map f rs) → AllByRecursion (λ r. P (f r)) rs
 unmapped P f [] h = tt
 unmapped P f (r ∷ rs) h = (h.0, unmapped P f rs h.1)
 
 -- P of every row that arrives from the leaf
 abbrev Up : (Row → Type 0) → List (List Row) → Leaf → Type 0
-Up P sources l = All (λ r. CalmFrom P (carried l.way r)) (at sources l.source [])
+Up P sources l = AllByRecursion (λ r. CalmFrom P (carried l.way r)) (at sources l.source [])
 
 onward : (P : Row → Type 0) (s : Step) (o : Option Row) → CalmFrom (λ r. CalmFrom P (stepped s r)) o → CalmFrom P (and_then o (stepped s))
 onward P s None h = tt
 onward P s (Some r) h = h
 
-up_through : (P : Row → Type 0) (sources : List (List Row)) (s : Step) (ls : List Leaf) → All (Up (λ r. CalmFrom P (stepped s r)) sources) ls → All (Up P sources) (map (through s) ls)
+up_through : (P : Row → Type 0) (sources : List (List Row)) (s : Step) (ls : List Leaf) → AllByRecursion (Up (λ r. CalmFrom P (stepped s r)) sources) ls → AllByRecursion (Up P sources) (map (through s) ls)
 up_through P sources s ls h =
     All-map (Up P sources) (through s) ls (All-weaker (Up (λ r. CalmFrom P (stepped s r)) sources) (λ l. Up P sources (through s l)) (λ l k. All-weaker (λ r. CalmFrom (λ x. CalmFrom P (stepped s x)) (carried l.way r)) (λ r. CalmFrom P (carried (l.way ++ s ∷ []) r)) (λ r m. subst (CalmFrom P) (sym (carried_push l.way s r)) (onward P s (carried l.way r) m)) (at sources l.source []) k) ls h)
 
-up : (b : BagTree) (sources : List (List Row)) (P : Row → Type 0) → All P (rows b sources) → All (Up P sources) (leaves b)
+up : (b : BagTree) (sources : List (List Row)) (P : Row → Type 0) → AllByRecursion P (rows b sources) → AllByRecursion (Up P sources) (leaves b)
 up (bag k) sources P h = (h, tt)
 up (keep b c) sources P h = up_through P sources (keeps c) (leaves b) (up b sources (λ r. CalmFrom P (stepped (keeps c) r)) (unkept P (holds c) (rows b sources) h))
 up (put j b t) sources P h = up_through P sources (puts j t) (leaves b) (up b sources (λ r. CalmFrom P (stepped (puts j t) r)) (unmapped P (λ r. with_cell r j (value t r)) (rows b sources) h))
@@ -71,13 +71,13 @@ calm_push (a ∷ way) s r h k = (h.0, go (stepped a r) h.1 k (calm_push way s))
     go (Some x) h k f = f x h k
 
 abbrev Calmly : List (List Row) → Leaf → Type 0
-Calmly sources l = All (CalmWay l.way) (at sources l.source [])
+Calmly sources l = AllByRecursion (CalmWay l.way) (at sources l.source [])
 
-calm_through : (sources : List (List Row)) (s : Step) (ls : List Leaf) → All (Calmly sources) ls → All (Up (CalmStep s) sources) ls → All (Calmly sources) (map (through s) ls)
+calm_through : (sources : List (List Row)) (s : Step) (ls : List Leaf) → AllByRecursion (Calmly sources) ls → AllByRecursion (Up (CalmStep s) sources) ls → AllByRecursion (Calmly sources) (map (through s) ls)
 calm_through sources s ls h k =
     All-map (Calmly sources) (through s) ls (all_both (Calmly sources) (Up (CalmStep s) sources) (λ l. Calmly sources (through s l)) (λ l x y. all_both (CalmWay l.way) (λ r. CalmFrom (CalmStep s) (carried l.way r)) (CalmWay (l.way ++ s ∷ [])) (λ r m n. calm_push l.way s r m n) (at sources l.source []) x y) ls h k)
 
-calm_leaves : (b : BagTree) (sources : List (List Row)) → CalmBag b sources → All (Calmly sources) (leaves b)
+calm_leaves : (b : BagTree) (sources : List (List Row)) → CalmBag b sources → AllByRecursion (Calmly sources) (leaves b)
 calm_leaves (bag k) sources h = (all_every (CalmWay []) (λ r. tt) (at sources k []), tt)
 calm_leaves (keep b c) sources h = calm_through sources (keeps c) (leaves b) (calm_leaves b sources h.0) (up b sources (CalmStep (keeps c)) h.1)
 calm_leaves (put j b t) sources h =
@@ -89,11 +89,11 @@ within_push width [] s h k = k
 within_push width (keeps c ∷ way) s h k = within_push width way s h k
 within_push width (puts j t ∷ way) s h k = (h.0, within_push width way s h.1 k)
 
-within_through : (width : ℕ) (s : Step) (ls : List Leaf) → WayWithin width (s ∷ []) → All (λ l. WayWithin width l.way) ls → All (λ l. WayWithin width l.way) (map (through s) ls)
+within_through : (width : ℕ) (s : Step) (ls : List Leaf) → WayWithin width (s ∷ []) → AllByRecursion (λ l. WayWithin width l.way) ls → AllByRecursion (λ l. WayWithin width l.way) (map (through s) ls)
 within_through width s ls k h =
     All-map (λ l. WayWithin width l.way) (through s) ls (All-weaker (λ l. WayWithin width l.way) (λ l. WayWithin width (l.way ++ s ∷ [])) (λ l x. within_push width l.way s x k) ls h)
 
-within_leaves : (b : BagTree) (width : ℕ) → BagWithin width b → All (λ l. WayWithin width l.way) (leaves b)
+within_leaves : (b : BagTree) (width : ℕ) → BagWithin width b → AllByRecursion (λ l. WayWithin width l.way) (leaves b)
 within_leaves (bag k) width h = (tt, tt)
 within_leaves (keep b c) width h = within_through width (keeps c) (leaves b) tt (within_leaves b width h)
 within_leaves (put j b t) width h = within_through width (puts j t) (leaves b) (h.0, tt) (within_leaves b width h.1)

@@ -1,6 +1,6 @@
 -- A bag as its leaves: every row of a bag is a row of a leaf's source, carried up the way from the leaf to the top.
 use Rattle.std.specs.Prelude.{◌≡◌, ℕ, ◌+◌, ◌^◌, ◌<◌, ◌≤◌, cond, List, [], ◌∷◌, ◌++◌, map, length, ℤ, pos, ◌+ℤ◌, Some, None, Ok, Err, Option, Result, slice_index_or}
-use Rattle.std.specs.List.{AllByRecursion as All}
+use Rattle.std.specs.List.{AllByRecursion}
 use Rattle.trees.specs.Meaning.{Row, at, holds, rows, total, value, with_cell}
 use Rattle.trees.specs.Tree.Tree.{bag, keep, put, pool}
 use Rattle.forms.specs.declared.form.Entry.{Entry}
@@ -113,8 +113,8 @@ CalmWay (s ∷ way) r = CalmStep s r × CalmFrom (CalmWay way) (stepped s r)
 -- the same of every row of the bag's parts
 abbrev pub CalmBag : BagTree → List (List Row) → Type 0
 CalmBag (bag k) sources = Unit {0}
-CalmBag (keep b c) sources = CalmBag b sources × All (CalmCondition c) (rows b sources)
-CalmBag (put j b t) sources = CalmBag b sources × PlaceBelow cells j × All (CalmTerm t) (rows b sources)
+CalmBag (keep b c) sources = CalmBag b sources × AllByRecursion (CalmCondition c) (rows b sources)
+CalmBag (put j b t) sources = CalmBag b sources × PlaceBelow cells j × AllByRecursion (CalmTerm t) (rows b sources)
 CalmBag (pool a b) sources = CalmBag a sources × CalmBag b sources
 
 -- each cell that is put lies within the width of the rows
@@ -133,5 +133,5 @@ BagWithin width (pool a b) = BagWithin width a × BagWithin width b
 pub record Spread (b : BagTree) : Type 0 where
   pub arrive : AllArrive b
   pub counted : AllCounted b
-  pub calm : (sources : List (List Row)) → CalmBag b sources → All (λ l. All (CalmWay l.way) (at sources l.source [])) (leaves b)
-  pub within : (width : ℕ) → BagWithin width b → All (λ l. WayWithin width l.way) (leaves b)
+  pub calm : (sources : List (List Row)) → CalmBag b sources → AllByRecursion (λ l. AllByRecursion (CalmWay l.way) (at sources l.source [])) (leaves b)
+  pub within : (width : ℕ) → BagWithin width b → AllByRecursion (λ l. WayWithin width l.way) (leaves b)

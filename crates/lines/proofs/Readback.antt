@@ -4,7 +4,7 @@ use Rattle.std.proofs.lemmas.Fmt.{decimal_by_steps, decimal_nonempty}
 use Rattle.std.proofs.ByRecursion.{All-append, All-push, All-weaker}
 use Rattle.std.proofs.lemmas.List.{take_at, drop_at, length-map}
 use Rattle.std.proofs.lemmas.Bool.{cond-true, cond-false, eq-eqb, ne_eqb, le-leb, leb-true, and_from, or_from}
-use Rattle.std.specs.List.{AllByRecursion as All}
+use Rattle.std.specs.List.{AllByRecursion}
 use Rattle.std.specs.Int.{IsInRange}
 use Rattle.std.specs.Fmt.{signed_decimal}
 use Rattle.trees.proofs.Spelling.{each_word, found, letters}
@@ -30,7 +30,7 @@ abbrev Fails : (ℕ → Bool) → List ℕ → Type 0
 Fails test [] = Unit {0}
 Fails test (c ∷ cs) = test c ≡ false
 
-run_at : (test : ℕ → Bool) (xs ys : List ℕ) → All (λ c. test c ≡ true) xs → Fails test ys → run test (xs ++ ys) ≡ length xs
+run_at : (test : ℕ → Bool) (xs ys : List ℕ) → AllByRecursion (λ c. test c ≡ true) xs → Fails test ys → run test (xs ++ ys) ≡ length xs
 run_at test [] [] all f = refl
 run_at test [] (y ∷ ys) all f = cond-false (test y) (suc (run test ys)) 0 f
 run_at test (x ∷ xs) ys all f = cond-true (test x) (suc (run test (xs ++ ys))) 0 all.0 ∙ ap suc (run_at test xs ys all.1 f)
@@ -39,10 +39,10 @@ run_at test (x ∷ xs) ys all f = cond-true (test x) (suc (run test (xs ++ ys)))
 abbrev Figure : ℕ → Type 0
 Figure c = IsInRange 45 57 c
 
-figures_decimal : (n : ℕ) → n < 2 ^ 64 → All Figure (decimal n)
-figures_decimal = decimal_by_steps (λ m ds. All Figure ds) (λ m l. ((omega arith, omega arith), tt)) (λ m ds l h. All-push Figure ds (48 + m % 10) h (omega arith, omega arith))
+figures_decimal : (n : ℕ) → n < 2 ^ 64 → AllByRecursion Figure (decimal n)
+figures_decimal = decimal_by_steps (λ m ds. AllByRecursion Figure ds) (λ m l. ((omega arith, omega arith), tt)) (λ m ds l h. All-push Figure ds (48 + m % 10) h (omega arith, omega arith))
 
-figures : (z : ℤ) → nat_abs z ≤ literal_bound → All Figure (signed_decimal z)
+figures : (z : ℤ) → nat_abs z ≤ literal_bound → AllByRecursion Figure (signed_decimal z)
 figures (pos n) h = figures_decimal n (omega arith)
 figures (negsuc n) h = ((omega arith, omega arith), figures_decimal (suc n) (omega arith))
 
@@ -57,16 +57,16 @@ Plain c = eqb c 32 ≡ false
 plain_figure : (c : ℕ) → Figure c → Plain c
 plain_figure c f = ne_eqb c 32 (λ e. omega (arith, f.0))
 
-fields_plain : (p : List ℕ) → All Plain p → fields p ≡ p ∷ []
+fields_plain : (p : List ℕ) → AllByRecursion Plain p → fields p ≡ p ∷ []
 fields_plain [] all = refl
 fields_plain (c ∷ p) all = cond-false (eqb c 32) ([] ∷ fields p) (onto c (fields p)) all.0 ∙ ap (onto c) (fields_plain p all.1)
 
-fields_next : (p u : List ℕ) → All Plain p → fields (p ++ 32 ∷ u) ≡ p ∷ fields u
+fields_next : (p u : List ℕ) → AllByRecursion Plain p → fields (p ++ 32 ∷ u) ≡ p ∷ fields u
 fields_next [] u all = refl
 fields_next (c ∷ p) u all = cond-false (eqb c 32) ([] ∷ fields (p ++ 32 ∷ u)) (onto c (fields (p ++ 32 ∷ u))) all.0 ∙ ap (onto c) (fields_next p u all.1)
 
 abbrev Bounded : List ℤ → Type 0
-Bounded ns = All (λ z. nat_abs z ≤ literal_bound) ns
+Bounded ns = AllByRecursion (λ z. nat_abs z ≤ literal_bound) ns
 
 -- the fields of numbers behind spaces are the numbers
 fields_spaced : (x : ℤ) (ns : List ℤ) → Bounded (x ∷ ns) → fields (signed_decimal x ++ spaced ns) ≡ signed_decimal x ∷ map signed_decimal ns
@@ -94,7 +94,7 @@ inner_figure : (c : ℕ) → Figure c → Inner c
 inner_figure c f =
     ap not (or_from (eqb c 40 || eqb c 41) (eqb c 10) (or_from (eqb c 40) (eqb c 41) (ne_eqb c 40 (λ e. omega (arith, f.0))) (ne_eqb c 41 (λ e. omega (arith, f.0)))) (ne_eqb c 10 (λ e. omega (arith, f.0))))
 
-inner_spaced : (ns : List ℤ) → Bounded ns → All Inner (spaced ns)
+inner_spaced : (ns : List ℤ) → Bounded ns → AllByRecursion Inner (spaced ns)
 inner_spaced [] b = tt
 inner_spaced (x ∷ ns) b = (refl, All-append Inner (signed_decimal x) (spaced ns) (All-weaker Figure Inner inner_figure (signed_decimal x) (figures x b.0)) (inner_spaced ns b.1))
 

@@ -4,7 +4,7 @@ use mathlib.Core.List.{tail-eq_of_cons-eq}
 use Rattle.std.proofs.lemmas.List.{take-append-drop}
 use Rattle.std.proofs.lemmas.Result.{IfOk-at_ok}
 use Rattle.std.proofs.lemmas.Bool.{cond_both, eqb-true, leb-true}
-use Rattle.std.specs.List.{flat_map, AllByRecursion as All}
+use Rattle.std.specs.List.{flat_map, AllByRecursion}
 use Rattle.std.specs.Fmt.{signed_decimal}
 use Rattle.trees.proofs.Spelling.{each_word, names}
 use Rattle.trees.specs.declared.words.Word.{Word}
@@ -109,7 +109,7 @@ both (Some a) (Some b) x y e =
     (ap (λ (z : ℤ × ℤ). Some z.0) pair, ap (λ (z : ℤ × ℤ). Some z.1) pair)
 
 -- pieces that are read as numbers are these numbers in decimal
-pieces_tell : (ps : List (List ℕ)) (x y : ℤ) → length ps ≤ 2 → numbers_read ps ≡ Some (x, y) → (ps ≡ map signed_decimal (take (length ps) (x ∷ y ∷ []))) × ((length (take (length ps) (x ∷ y ∷ [])) ≡ length ps) × All (λ z. nat_abs z ≤ literal_bound) (take (length ps) (x ∷ y ∷ [])))
+pieces_tell : (ps : List (List ℕ)) (x y : ℤ) → length ps ≤ 2 → numbers_read ps ≡ Some (x, y) → (ps ≡ map signed_decimal (take (length ps) (x ∷ y ∷ []))) × ((length (take (length ps) (x ∷ y ∷ [])) ≡ length ps) × AllByRecursion (λ z. nat_abs z ≤ literal_bound) (take (length ps) (x ∷ y ∷ [])))
 pieces_tell [] x y h e = (refl, (refl, tt))
 pieces_tell (p ∷ []) x y h e =
     let a = (spells p x).0 (both (number_spelled p) (Some (pos 0)) x y e).0 in
@@ -155,7 +155,7 @@ written_heading s h sp e =
     record {
       word = (names s.word h.word).0 e.word;
       pieces = sym (rejoined s.pieces sp) ∙ ap (flat_map (λ (f : List ℕ). 32 ∷ f)) (tell.0 ∙ ap (map signed_decimal) taken) ∙ joined_signed (numbers_in h);
-      counted = (ap length (sym taken) ∙ tell.1.0 ∙ e.count, subst (All (λ z. nat_abs z ≤ literal_bound)) taken tell.1.1);
+      counted = (ap length (sym taken) ∙ tell.1.0 ∙ e.count, subst (AllByRecursion (λ z. nat_abs z ≤ literal_bound)) taken tell.1.1);
     }
 
 abbrev WrittenLine : List ℕ → Token Heading → List ℕ → Type 0

@@ -1,6 +1,6 @@
 -- What a line says, from its bytes; and the law that these are the bytes of a line's written form.
 use Rattle.std.specs.Prelude.{◌≡◌, ℕ, ◌≤◌, List, [], ◌∷◌, ◌++◌, length, take, ℤ, Some, None, Ok, Err, Option, Result, unsigned_abs}
-use Rattle.std.specs.List.{AllByRecursion as All}
+use Rattle.std.specs.List.{AllByRecursion}
 use Rattle.trees.specs.declared.words.Word.{Word}
 use Rattle.trees.specs.Size.{literal_bound}
 use Rattle.trees.specs.Words.{entry}
@@ -38,7 +38,7 @@ as_line (Closing n) = closing
 
 -- as many numbers as the word has, each within the bound
 abbrev pub Counted : Word → List ℤ → Type 0
-Counted w ns = (length ns ≡ (entry w).numbers) × All (λ z. unsigned_abs z ≤ literal_bound) ns
+Counted w ns = (length ns ≡ (entry w).numbers) × AllByRecursion (λ z. unsigned_abs z ≤ literal_bound) ns
 
 abbrev pub Proper : Line → Type 0
 Proper (opening w ns) = Counted w ns

@@ -4,7 +4,7 @@ use mathlib.Core.List.{foldr, reverse_aux, reverse_aux-eq}
 use Rattle.std.proofs.lemmas.List.{length_push, length-append, length-map, length-reverse}
 use Rattle.std.proofs.lemmas.List.Sums.{sum_by-cons}
 use Rattle.std.proofs.lemmas.Bool.{and_from, eq-eqb, lt-ltb, le-ltb, not_from_false, true≢false, false≢true}
-use Rattle.std.specs.List.{AllByRecursion as All}
+use Rattle.std.specs.List.{AllByRecursion}
 use Rattle.std.specs.List as maps
 use Rattle.refusals.specs.Rules.{or_else, unless}
 use Rattle.trees.proofs.Induction.{make, folds, Made, induct}
@@ -182,7 +182,7 @@ module _ (h : Heading) (n o : ℕ) (fs : List Frame) where
     wrong_now : end.at.wrong ≡ s.at.wrong
     grown : Grown s.entries end.entries
 
-  goes_parts : (ps : List AnyTree) → All Goes ps → (s : State) (done : List AnyTree) (l : Line) (ls : List Line) → Among s done (map kind_of ps) → s.at.forms + sum (folds form_size ps) ≤ max_forms → suc (length fs) + foldr max 0 (folds form_depth ps) ≤ max_depth → PartsRead s done ps (l ∷ ls)
+  goes_parts : (ps : List AnyTree) → AllByRecursion Goes ps → (s : State) (done : List AnyTree) (l : Line) (ls : List Line) → Among s done (map kind_of ps) → s.at.forms + sum (folds form_size ps) ≤ max_forms → suc (length fs) + foldr max 0 (folds form_depth ps) ≤ max_depth → PartsRead s done ps (l ∷ ls)
   goes_parts [] all s done l ls m few deep = record { end = s; way = ap (λ (i : ℕ). tokens_read s (tokens_of i (l ∷ ls))) (omega arith); among = m; forms_now = omega arith; wrong_now = refl; grown = ([], sym (append-nil s.entries)) }
   goes_parts (p ∷ ps) all s done l ls m few deep =
       let sizes = sum_by-cons (λ x. x) (size p.1) (folds form_size ps) in
@@ -214,7 +214,7 @@ module _ (h : Heading) (n o : ℕ) (fs : List Frame) where
       last_close [] g = le-ltb 1 (length s.at.open_forms) (omega (arith, g refl, ap length m.open_now))
       last_close (x ∷ xs) g = refl
 
-goes_form : (w : Word) (ns : List ℤ) (q : AnyTree) (ps : List AnyTree) → Made w ns (q ∷ ps) → All Goes (q ∷ ps) → Goes (make w ns (q ∷ ps))
+goes_form : (w : Word) (ns : List ℤ) (q : AnyTree) (ps : List AnyTree) → Made w ns (q ∷ ps) → AllByRecursion Goes (q ∷ ps) → Goes (make w ns (q ∷ ps))
 goes_form w ns q ps made all s n rest wants few deep end =
     let h = heading_of w ns in
     let o = wanted (first_of s.at.open_forms) s.at.forms in
@@ -253,7 +253,7 @@ goes_form w ns q ps made all s n rest wants few deep end =
     never_last i [] ys = refl
     never_last i (x ∷ xs) ys = refl
 
-form_goes : (w : Word) (ns : List ℤ) (ps : List AnyTree) → Made w ns ps → All Goes ps → Goes (make w ns ps)
+form_goes : (w : Word) (ns : List ℤ) (ps : List AnyTree) → Made w ns ps → AllByRecursion Goes ps → Goes (make w ns ps)
 form_goes w ns [] made all = goes_leaf w ns made
 form_goes w ns (q ∷ ps) made all = goes_form w ns q ps made all
 

@@ -3,7 +3,7 @@ use Rattle.std.proofs.Common.{◌≡◌, ℕ, suc, ◌+◌, ◌<◌, Bool, true,
 use Rattle.std.proofs.ByRecursion.{All-drop}
 use Rattle.std.proofs.lemmas.List.{take-append-le, drop-append-le, length-append}
 use Rattle.std.proofs.lemmas.Bool.{cases_eq, cond-true, cond-false, eq-eqb, ne_eqb}
-use Rattle.std.specs.List.{AllByRecursion as All}
+use Rattle.std.specs.List.{AllByRecursion}
 use Rattle.lines.proofs.Fields.{run_le}
 use Rattle.lines.proofs.Splits.{pieces_le}
 use Rattle.lines.specs.declared.fault.LineFault.{LineFault}
@@ -24,8 +24,8 @@ Inside c = c ≡ 10 → ⊥
 -- a text is a first line with its end and what follows, or one line without an end
 abbrev Cut : List ℕ → Type 0
 Cut bs =
-    ((m : List ℕ) × (r : List ℕ) × (bs ≡ m ++ 10 ∷ r) × All Inside m × (lines_of bs ≡ (m ++ 10 ∷ []) ∷ lines_of r))
-    ⊎ (All Inside bs × (lines_of bs ≡ bs ∷ []))
+    ((m : List ℕ) × (r : List ℕ) × (bs ≡ m ++ 10 ∷ r) × AllByRecursion Inside m × (lines_of bs ≡ (m ++ 10 ∷ []) ∷ lines_of r))
+    ⊎ (AllByRecursion Inside bs × (lines_of bs ≡ bs ∷ []))
 
 lines_more : (c : ℕ) (cs : List ℕ) → Inside c → lines_of (c ∷ cs) ≡ onto c (lines_of cs)
 lines_more c cs ne = cond-false (eqb c 10) ((10 ∷ []) ∷ lines_of cs) (onto c (lines_of cs)) (ne_eqb c 10 ne)
@@ -89,39 +89,39 @@ choose true r x y o p e f = e
 choose false r x y o p e f = f
 
 module _ (n : ℕ) (r : List ℕ) where
-  leaf_same : (s : Spelling) (v : List ℕ) → All Inside v → leaf_ended n s (v ++ 10 ∷ r) ≡ with_rest r (leaf_in n s v)
+  leaf_same : (s : Spelling) (v : List ℕ) → AllByRecursion Inside v → leaf_ended n s (v ++ 10 ∷ r) ≡ with_rest r (leaf_in n s v)
   leaf_same s [] all = refl
   leaf_same s (c ∷ v) all = cond-false (eqb c 10) (Some (Leaf s n, v ++ 10 ∷ r)) None (ne_eqb c 10 all.0)
 
-  end_same : (s : Spelling) (v : List ℕ) → All Inside v → ended n s (v ++ 10 ∷ r) ≡ with_rest r (end_in n s v)
+  end_same : (s : Spelling) (v : List ℕ) → AllByRecursion Inside v → ended n s (v ++ 10 ∷ r) ≡ with_rest r (end_in n s v)
   end_same s [] all = refl
   end_same s (c ∷ v) all =
       cond-false (eqb c 10) (Some (Opening s n, v ++ 10 ∷ r)) (cond (eqb c 41) (leaf_ended n s (v ++ 10 ∷ r)) None) (ne_eqb c 10 all.0)
       ∙ choose (eqb c 41) r (leaf_ended n s (v ++ 10 ∷ r)) None (leaf_in n s v) None (leaf_same s v all.1) refl
 
-  pieces_same : (w u : List ℕ) (o : Option ℕ) → pieces_run u ≡ o → All Inside u → with_pieces n w (u ++ 10 ∷ r) o ≡ with_rest r (pieces_token n w u o)
+  pieces_same : (w u : List ℕ) (o : Option ℕ) → pieces_run u ≡ o → AllByRecursion Inside u → with_pieces n w (u ++ 10 ∷ r) o ≡ with_rest r (pieces_token n w u o)
   pieces_same w u None e all = refl
   pieces_same w u (Some k) e all =
       let small = pieces_le u k e in
       ap₂ (λ (x y : List ℕ). ended n (record { word = w; pieces = x }) y) (take-append-le k u (10 ∷ r) small) (drop-append-le k u (10 ∷ r) small)
       ∙ end_same (record { word = w; pieces = take k u }) (drop k u) (All-drop Inside k u all)
 
-  word_same : (w u : List ℕ) → All Inside u → with_word n w (u ++ 10 ∷ r) ≡ with_rest r (word_token n w u)
+  word_same : (w u : List ℕ) → AllByRecursion Inside u → with_word n w (u ++ 10 ∷ r) ≡ with_rest r (word_token n w u)
   word_same [] u all = refl
   word_same (c ∷ w) u all = ap (with_pieces n (c ∷ w) (u ++ 10 ∷ r)) (pieces_inside u r) ∙ pieces_same (c ∷ w) u (pieces_run u) refl all
 
-  form_same : (m : List ℕ) → All Inside m → form_token n (m ++ 10 ∷ r) ≡ with_rest r (word_token n (take (run letter m) m) (drop (run letter m) m))
+  form_same : (m : List ℕ) → AllByRecursion Inside m → form_token n (m ++ 10 ∷ r) ≡ with_rest r (word_token n (take (run letter m) m) (drop (run letter m) m))
   form_same m all =
       let same = run_inside letter refl m r in
       let small = run_le letter m in
       ap₂ (with_word n) (ap (λ i. take i (m ++ 10 ∷ r)) same ∙ take-append-le (run letter m) m (10 ∷ r) small) (ap (λ i. drop i (m ++ 10 ∷ r)) same ∙ drop-append-le (run letter m) m (10 ∷ r) small)
       ∙ word_same (take (run letter m) m) (drop (run letter m) m) (All-drop Inside (run letter m) m all)
 
-  closed_same : (m : List ℕ) → All Inside m → closed n (m ++ 10 ∷ r) ≡ with_rest r (closed_in n m)
+  closed_same : (m : List ℕ) → AllByRecursion Inside m → closed n (m ++ 10 ∷ r) ≡ with_rest r (closed_in n m)
   closed_same [] all = refl
   closed_same (c ∷ m) all = cond-false (eqb c 10) (Some (Closing n, m ++ 10 ∷ r)) None (ne_eqb c 10 all.0)
 
-  token_same : (m : List ℕ) → All Inside m → token_at n (m ++ 10 ∷ r) ≡ with_rest r (token_in n m)
+  token_same : (m : List ℕ) → AllByRecursion Inside m → token_at n (m ++ 10 ∷ r) ≡ with_rest r (token_in n m)
   token_same [] all = refl
   token_same (c ∷ m) all =
       let form = word_token n (take (run letter m) m) (drop (run letter m) m) in
@@ -134,28 +134,28 @@ neither true x y e f = e
 neither false x y e f = f
 
 module _ (n : ℕ) where
-  leaf_none : (s : Spelling) (v : List ℕ) → All Inside v → leaf_ended n s v ≡ None
+  leaf_none : (s : Spelling) (v : List ℕ) → AllByRecursion Inside v → leaf_ended n s v ≡ None
   leaf_none s [] all = refl
   leaf_none s (c ∷ v) all = cond-false (eqb c 10) (Some (Leaf s n, v)) None (ne_eqb c 10 all.0)
 
-  end_none : (s : Spelling) (v : List ℕ) → All Inside v → ended n s v ≡ None
+  end_none : (s : Spelling) (v : List ℕ) → AllByRecursion Inside v → ended n s v ≡ None
   end_none s [] all = refl
   end_none s (c ∷ v) all =
       cond-false (eqb c 10) (Some (Opening s n, v)) (cond (eqb c 41) (leaf_ended n s v) None) (ne_eqb c 10 all.0) ∙ neither (eqb c 41) (leaf_ended n s v) None (leaf_none s v all.1) refl
 
-  pieces_none : (w u : List ℕ) (o : Option ℕ) → All Inside u → with_pieces n w u o ≡ None
+  pieces_none : (w u : List ℕ) (o : Option ℕ) → AllByRecursion Inside u → with_pieces n w u o ≡ None
   pieces_none w u None all = refl
   pieces_none w u (Some k) all = end_none (record { word = w; pieces = take k u }) (drop k u) (All-drop Inside k u all)
 
-  word_none : (w u : List ℕ) → All Inside u → with_word n w u ≡ None
+  word_none : (w u : List ℕ) → AllByRecursion Inside u → with_word n w u ≡ None
   word_none [] u all = refl
   word_none (c ∷ w) u all = pieces_none (c ∷ w) u (pieces_run u) all
 
-  closed_none : (m : List ℕ) → All Inside m → closed n m ≡ None
+  closed_none : (m : List ℕ) → AllByRecursion Inside m → closed n m ≡ None
   closed_none [] all = refl
   closed_none (c ∷ m) all = cond-false (eqb c 10) (Some (Closing n, m)) None (ne_eqb c 10 all.0)
 
-  token_none : (m : List ℕ) → All Inside m → token_at n m ≡ None
+  token_none : (m : List ℕ) → AllByRecursion Inside m → token_at n m ≡ None
   token_none [] all = refl
   token_none (c ∷ m) all =
       neither (eqb c 41) (closed n m) (cond (eqb c 40) (form_token n m) None) (closed_none m all.1) (neither (eqb c 40) (form_token n m) None (word_none (take (run letter m) m) (drop (run letter m) m) (All-drop Inside (run letter m) m all.1)) refl)

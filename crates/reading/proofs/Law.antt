@@ -1,7 +1,7 @@
 -- Exactly the written forms of number trees within the limits are read.
 use Rattle.std.proofs.Common.{◌≡◌, ℕ, ◌-◌, ◌^◌, ◌<◌, ◌≤◌, ◌⊎◌, List, [], ◌∷◌, map, length, ℤ, nat_abs, Some, None, Ok, Err, Option, Result, sym, refl, ap, ◌∙◌, subst, inl, inr, append-nil, arith}
 use Rattle.std.proofs.ByRecursion.{All-append, All-weaker}
-use Rattle.std.specs.List.{flat_map, AllByRecursion as All}
+use Rattle.std.specs.List.{flat_map, AllByRecursion}
 use Rattle.trees.proofs.Induction.{folds, induct}
 use Rattle.trees.proofs.Limits.{told_by_lines}
 use Rattle.trees.proofs.Unique.{all_split, written_once}
@@ -38,25 +38,25 @@ Full (leaf w ns) = length ns ≡ (entry w).numbers
 Full closing = Unit {0}
 
 abbrev Bounded : List ℤ → Type 0
-Bounded ns = All (λ z. nat_abs z ≤ literal_bound) ns
+Bounded ns = AllByRecursion (λ z. nat_abs z ≤ literal_bound) ns
 
-full_parts : (ps : List AnyTree) → All (λ p. All Full (lines p.1)) ps → All Full (all_lines ps)
+full_parts : (ps : List AnyTree) → AllByRecursion (λ p. AllByRecursion Full (lines p.1)) ps → AllByRecursion Full (all_lines ps)
 full_parts [] all = tt
 full_parts (p ∷ ps) all = All-append Full (lines p.1) (all_lines ps) all.0 (full_parts ps all.1)
 
-full_form : (w : Word) (ns : List ℤ) (ps : List AnyTree) → length ns ≡ (entry w).numbers → All (λ p. All Full (lines p.1)) ps → All Full (form_lines w ns (folds form_lines ps))
+full_form : (w : Word) (ns : List ℤ) (ps : List AnyTree) → length ns ≡ (entry w).numbers → AllByRecursion (λ p. AllByRecursion Full (lines p.1)) ps → AllByRecursion Full (form_lines w ns (folds form_lines ps))
 full_form w ns [] e all = (e, tt)
 full_form w ns (p ∷ ps) e all = (e, All-append Full (all_lines (p ∷ ps)) (closing ∷ []) (full_parts (p ∷ ps) all) (tt, tt))
 
-full : {k : Kind} (t : Tree k) → All Full (lines t)
-full = induct (λ p. All Full (lines p.1)) (λ w ns ps made all. subst (All Full) (sym (made.folded form_lines)) (full_form w ns ps made.numbers all))
+full : {k : Kind} (t : Tree k) → AllByRecursion Full (lines t)
+full = induct (λ p. AllByRecursion Full (lines p.1)) (λ w ns ps made all. subst (AllByRecursion Full) (sym (made.folded form_lines)) (full_form w ns ps made.numbers all))
 
 proper_line : (l : Line) → Full l → Bounded (line_numbers l) → Proper l
 proper_line (opening w ns) f b = (f, b)
 proper_line (leaf w ns) f b = (f, b)
 proper_line closing f b = tt
 
-proper_lines : (ls : List Line) → All Full ls → Bounded (flat_map line_numbers ls) → All Proper ls
+proper_lines : (ls : List Line) → AllByRecursion Full ls → Bounded (flat_map line_numbers ls) → AllByRecursion Proper ls
 proper_lines [] f b = tt
 proper_lines (l ∷ ls) f b = let r = all_split (λ z. nat_abs z ≤ literal_bound) (line_numbers l) (flat_map line_numbers ls) b in (proper_line l f.0 r.0, proper_lines ls f.1 r.1)
 
@@ -65,7 +65,7 @@ bounded_line (opening w ns) p = p.1
 bounded_line (leaf w ns) p = p.1
 bounded_line closing p = tt
 
-bounded_lines : (ls : List Line) → All Proper ls → Bounded (flat_map line_numbers ls)
+bounded_lines : (ls : List Line) → AllByRecursion Proper ls → Bounded (flat_map line_numbers ls)
 bounded_lines [] p = tt
 bounded_lines (l ∷ ls) p = All-append (λ z. nat_abs z ≤ literal_bound) (line_numbers l) (flat_map line_numbers ls) (bounded_line l p.0) (bounded_lines ls p.1)
 
@@ -110,7 +110,7 @@ whole_from es [] forms l ls e (inl x) = let f = ap length x.1 in absurd (omega a
 whole_from es [] forms l ls e (inr x) = x.0
 whole_from es (f ∷ fs) forms l ls e x = absurd (omega arith)
 
-tree_from : (text : List ℕ) (s : State) (t : Token Heading) (ts : List (Token Heading)) → lines_read beginning 1 (lines_of text) ≡ Ok s → tokens_read beginning (t ∷ ts) ≡ Ok s → text ≡ flat_map line_bytes (map as_line (t ∷ ts)) → All Proper (map as_line (t ∷ ts)) → s.at.wrong ≡ None → TreeOf text s.entries
+tree_from : (text : List ℕ) (s : State) (t : Token Heading) (ts : List (Token Heading)) → lines_read beginning 1 (lines_of text) ≡ Ok s → tokens_read beginning (t ∷ ts) ≡ Ok s → text ≡ flat_map line_bytes (map as_line (t ∷ ts)) → AllByRecursion Proper (map as_line (t ∷ ts)) → s.at.wrong ≡ None → TreeOf text s.entries
 tree_from text s t ts from_text reads bytes proper right =
     let shut = all_shut t ts beginning s reads in
     let w = whole_from s.entries s.at.open_forms s.at.forms (as_line t) (map as_line ts) shut (stand (t ∷ ts) beginning s [] reads right proper (inl (refl, refl))) in
@@ -130,7 +130,7 @@ tree_from text s t ts from_text reads bytes proper right =
 sound : (text : List ℕ) (s : State) → lines_read beginning 1 (lines_of text) ≡ Ok s → s.at.wrong ≡ None → (text ≡ []) ⊎ TreeOf text s.entries
 sound text s e right = let p = parse (length text) 1 text beginning s (omega arith) e in go p.tokens p.reads p.bytes p.proper
   where
-    go : (ts : List (Token Heading)) → tokens_read beginning ts ≡ Ok s → text ≡ flat_map line_bytes (map as_line ts) → All Proper (map as_line ts) → (text ≡ []) ⊎ TreeOf text s.entries
+    go : (ts : List (Token Heading)) → tokens_read beginning ts ≡ Ok s → text ≡ flat_map line_bytes (map as_line ts) → AllByRecursion Proper (map as_line ts) → (text ≡ []) ⊎ TreeOf text s.entries
     go [] reads bytes proper = inl bytes
     go (t ∷ ts) reads bytes proper = inr (tree_from text s t ts e reads bytes proper right)
 
@@ -159,7 +159,7 @@ some_written t limits e = go (lines t) (told_by_lines Number t).0 e
     go (leaf w ns ∷ ls) f g = omega (arith, ap length g)
     go (closing ∷ ls) f g = omega (arith, ap length g)
 
-fit_64 : (t : Tree Number) → WithinLimits t → All (λ z. nat_abs z ≤ 2 ^ 63 - 1) (numbers t)
+fit_64 : (t : Tree Number) → WithinLimits t → AllByRecursion (λ z. nat_abs z ≤ 2 ^ 63 - 1) (numbers t)
 fit_64 t limits = All-weaker (λ z. nat_abs z ≤ literal_bound) (λ z. nat_abs z ≤ 2 ^ 63 - 1) (λ z h. omega arith) (numbers t) limits.small
 
 same_tree : (es : List Entry) (t u : Tree Number) → any u ≡ any t → HoldsLined es u → HoldsLined es t

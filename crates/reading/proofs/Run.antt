@@ -1,7 +1,7 @@
 -- A text as a list of tokens: what is read of them, and how they stand for the bytes.
 use Rattle.std.proofs.Common.{◌≡◌, ℕ, zero, suc, pred, ◌+◌, ◌<◌, ◌≤◌, Bool, true, false, List, [], ◌∷◌, ◌++◌, map, length, None, Ok, Err, Result, sym, refl, ap, ◌∙◌, subst, append_assoc, append-nil, arith}
 use Rattle.std.proofs.lemmas.Bool.{ltb-false, true≢false, ne_eqb}
-use Rattle.std.specs.List.{flat_map, AllByRecursion as All}
+use Rattle.std.specs.List.{flat_map, AllByRecursion}
 use Rattle.trees.specs.Size.{max_depth}
 use Rattle.trees.specs.Written.{Line, line_bytes, forms_in, deepest}
 use Rattle.trees.specs.Written.Line.{opening, leaf, closing}
@@ -38,7 +38,7 @@ pub record Parsed (s : State) (bs : List ℕ) (s' : State) : Type 0 where
   pub tokens : List (Token Heading)
   pub reads : tokens_read s tokens ≡ Ok s'
   pub bytes : bs ≡ flat_map line_bytes (map as_line tokens)
-  pub proper : All Proper (map as_line tokens)
+  pub proper : AllByRecursion Proper (map as_line tokens)
   pub ends : no_token tokens ≡ none (lines_of bs)
 
 -- a first token, and those behind it
@@ -88,7 +88,7 @@ after_same : {X Y E : Type 0} (r : Result X E) (f g : X → Result Y E) → ((x 
 after_same (Ok x) f g h = h x
 after_same (Err e) f g h = refl
 
-pub unparse : (n : ℕ) (ls : List Line) (s : State) → All Proper ls → lines_read s n (lines_of (flat_map line_bytes ls)) ≡ tokens_read s (tokens_of n ls)
+pub unparse : (n : ℕ) (ls : List Line) (s : State) → AllByRecursion Proper ls → lines_read s n (lines_of (flat_map line_bytes ls)) ≡ tokens_read s (tokens_of n ls)
 unparse n [] s all = refl
 unparse n (l ∷ ls) s all =
     let rest = flat_map line_bytes ls in
@@ -112,7 +112,7 @@ right_all (t ∷ ts) s s' e right =
     let y = taken s (no_token ts) t x.0 x.1 in
     right_before t s (ap (λ (z : State). z.at.wrong) y.1 ∙ right_all ts x.0 s' x.2 right)
 
-pub stand : (ts : List (Token Heading)) (s s' : State) (ls : List Line) → tokens_read s ts ≡ Ok s' → s'.at.wrong ≡ None → All Proper (map as_line ts) → At s.entries s.at.open_forms s.at.forms ls → At s'.entries s'.at.open_forms s'.at.forms (ls ++ map as_line ts)
+pub stand : (ts : List (Token Heading)) (s s' : State) (ls : List Line) → tokens_read s ts ≡ Ok s' → s'.at.wrong ≡ None → AllByRecursion Proper (map as_line ts) → At s.entries s.at.open_forms s.at.forms ls → At s'.entries s'.at.open_forms s'.at.forms (ls ++ map as_line ts)
 stand [] s s' ls e right proper a =
     let same : s ≡ s' = cc in
     subst (At s'.entries s'.at.open_forms s'.at.forms) (sym (append-nil ls)) (subst (λ (x : State). At x.entries x.at.open_forms x.at.forms ls) same a)

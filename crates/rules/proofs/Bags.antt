@@ -9,7 +9,7 @@ use Rattle.std.proofs.ByRecursion.{All-append, all_kept_by, All-map, All-weaker}
 use Rattle.std.proofs.lemmas.List.{length-append, length-map, length-set}
 use Rattle.std.proofs.lemmas.List.Sums.{count_by-le-length, length-filter}
 use Rattle.std.proofs.lemmas.Bool.{eqb-true, false≢true}
-use Rattle.std.specs.List.{AllByRecursion as All}
+use Rattle.std.specs.List.{AllByRecursion}
 use Rattle.forms.specs.Calm.{CalmCondition, CalmTerm, PlaceBelow}
 use Rattle.forms.specs.Leaves.{BagWithin}
 use Rattle.forms.specs.Lined.{past}
@@ -28,7 +28,7 @@ use Rattle.rules.proofs.Terms.{condition_kept, term_kept}
 
 -- the rows of source k fit the catalogue
 pub record RowsFit (c : Catalogue) (i : Inputs) (k : ℕ) : Type 0 where
-  pub some_rows : All (Fits (columns_of (source_shape c k))) (get_or i.sources k [])
+  pub some_rows : AllByRecursion (Fits (columns_of (source_shape c k))) (get_or i.sources k [])
   pub few_rows : length (get_or i.sources k []) ≤ (source_shape c k).limit
   pub few_columns : length (columns_of (source_shape c k)) ≤ 6
 

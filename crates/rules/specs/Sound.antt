@@ -4,7 +4,7 @@ use Rattle.sources.specs.Shapes.{columns_of, within}
 use Rattle.sources.specs.Source.{Fits, Lawful, Meaning}
 use Rattle.sources.specs.declared.shapes.Range.{Range}
 use Rattle.sources.specs.declared.shapes.Shape.{Shape}
-use Rattle.std.specs.List.{AllByRecursion as All}
+use Rattle.std.specs.List.{AllByRecursion}
 use Rattle.forms.specs.Calm.{CalmNumber, CalmTerm}
 use Rattle.forms.specs.Leaves.{BagWithin, CalmBag}
 use Rattle.trees.specs.declared.Kind.TheVariants.{Bag, Number, Term}
@@ -41,7 +41,7 @@ pub record Fitting (c : Catalogue) (p : Plant) : Type 0 where
 
 -- the rows of a bag fit its columns and are no more than its limit, and carrying rows to its top stays within bounds
 pub record BagKept (i : Inputs) (b : Tree Bag) (x : BagType) : Type 0 where
-  pub some_rows : All (Fits x.columns) (rows b i.sources)
+  pub some_rows : AllByRecursion (Fits x.columns) (rows b i.sources)
   pub few_rows : length (rows b i.sources) ≤ x.limit
   pub few_columns : length x.columns ≤ 6
   pub calm : CalmBag b i.sources

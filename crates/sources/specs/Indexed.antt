@@ -5,7 +5,7 @@ use Rattle.std.proofs.lemmas.List.FromFn.{length-map-range_with_len, get_or-map-
 use Rattle.std.proofs.lemmas.List.{get_or_past}
 use Rattle.std.proofs.lemmas.Bool.{both_ways}
 use Rattle.std.proofs.lemmas.Bool.Decides.{Decides-below_and}
-use Rattle.std.specs.List.{range_with_len, AllByRecursion as All}
+use Rattle.std.specs.List.{range_with_len, AllByRecursion}
 
 -- p holds of each index below n
 abbrev pub each : (ℕ → Bool) → ℕ → Bool
@@ -44,6 +44,6 @@ module _ {X : Type 0} (f : ℕ → X) (n k : ℕ) (d : X) where
   listed_past h = get_or_past (listed f n) k d (simp length-map-range_with_len h)
 
 -- what holds of f at each of the n indices from a on holds of each element
-pub all_listed : {X : Type 0} (P : X → Type 0) (f : ℕ → X) (a n : ℕ) → ((k : ℕ) → a ≤ k → k < a + n → P (f k)) → All P (map f (range_with_len a n))
+pub all_listed : {X : Type 0} (P : X → Type 0) (f : ℕ → X) (a n : ℕ) → ((k : ℕ) → a ≤ k → k < a + n → P (f k)) → AllByRecursion P (map f (range_with_len a n))
 all_listed P f a zero h = tt
 all_listed P f a (suc n) h = (h a (omega arith) (omega arith), all_listed P f (a + 1) n (λ k low high. h k (omega arith) (omega arith)))

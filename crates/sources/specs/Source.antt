@@ -1,6 +1,6 @@
 -- What a source means, a shape and a list of rows, and the law that every source keeps.
 use Rattle.std.specs.Prelude.{◌≡◌, ℕ, ◌≤◌, true, List, [], ◌∷◌, length, ℤ, pos, slice_index_or}
-use Rattle.std.specs.List.{AllByRecursion as All}
+use Rattle.std.specs.List.{AllByRecursion}
 use Rattle.sources.specs.Shapes.{range, sound, within, column, max_width, max_rows}
 use Rattle.sources.specs.declared.shapes.Range.{Range}
 
@@ -41,9 +41,9 @@ pub record Lawful (m : Meaning) : Type 0 where
   pub few_columns : m.width ≤ max_width
   pub few_rows : m.limit ≤ max_rows
   pub all_columns : length m.columns ≡ m.width
-  pub columns_sound : All (λ c. sound c ≡ true) m.columns
+  pub columns_sound : AllByRecursion (λ c. sound c ≡ true) m.columns
   pub in_limit : count_of m ≤ m.limit
-  pub rows_fit : All (Fits m.columns) m.rows
+  pub rows_fit : AllByRecursion (Fits m.columns) m.rows
 
 -- the source that is not opened yet: one column from 0 to 0, and no rows
 abbrev pub unopened : Meaning

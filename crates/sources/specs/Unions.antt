@@ -7,7 +7,7 @@ use Rattle.std.proofs.lemmas.List.{length-append}
 use Rattle.std.proofs.lemmas.Int.{ints, clamps}
 use Rattle.std.proofs.lemmas.Bool.{and_from, and_parts, cond_both, eqb-true, leb-true}
 use Rattle.std.specs.Int.{int_max, int_min}
-use Rattle.std.specs.List.{AllByRecursion as All}
+use Rattle.std.specs.List.{AllByRecursion}
 use Rattle.sources.specs.Shapes.{range, max_rows, near, sound, within}
 use Rattle.sources.specs.Source.{Meaning, Lawful, Row, Fits, low_of, high_of, count_of, cell_of}
 use Rattle.sources.specs.declared.shapes.Range.{Range}
@@ -83,7 +83,7 @@ hull_sound a b p q =
     (near_greatest a.high b.high a_high.0 b_high.0)
     (sym (true_is_le low high (omega (arith, ints, clamps, le-true a.low a.high a_high.1)))))
 
-hulls_sound : (cs ds : List Range) → All (λ c. sound c ≡ true) cs → All (λ c. sound c ≡ true) ds → All (λ c. sound c ≡ true) (hulls cs ds)
+hulls_sound : (cs ds : List Range) → AllByRecursion (λ c. sound c ≡ true) cs → AllByRecursion (λ c. sound c ≡ true) ds → AllByRecursion (λ c. sound c ≡ true) (hulls cs ds)
 hulls_sound [] ds p q = tt
 hulls_sound (c ∷ cs) [] p q = tt
 hulls_sound (c ∷ cs) (d ∷ ds) p q = (hull_sound c d p.0 q.0, hulls_sound cs ds p.1 q.1)

@@ -1,6 +1,6 @@
 -- Induction on trees, once for all words: a tree is made of a word, numbers and parts as the table has them.
 use Rattle.std.proofs.Common.{◌≡◌, ℕ, List, [], ◌∷◌, map, length, get_or, ℤ, pos, refl}
-use Rattle.std.specs.List.{AllByRecursion as All}
+use Rattle.std.specs.List.{AllByRecursion}
 use Rattle.trees.specs.declared.Kind.{Kind}
 use Rattle.trees.specs.declared.Kind.TheVariants.{Term, Condition, Bag, Number}
 use Rattle.trees.specs.declared.words.Word.{Word}
@@ -80,7 +80,7 @@ pub record Made (w : Word) (ns : List ℤ) (ps : List AnyTree) : Type 1 where
   pub parts : map (λ p. p.0) ps ≡ (entry w).parts
   pub folded : {X : Type 0} (f : Word → List ℤ → List X → X) → fold f (make w ns ps).1 ≡ f w ns (folds f ps)
 
-pub induct : (P : AnyTree → Type 0) → ((w : Word) (ns : List ℤ) (ps : List AnyTree) → Made w ns ps → All P ps → P (make w ns ps)) → {k : Kind} (t : Tree k) → P (any t)
+pub induct : (P : AnyTree → Type 0) → ((w : Word) (ns : List ℤ) (ps : List AnyTree) → Made w ns ps → AllByRecursion P ps → P (make w ns ps)) → {k : Kind} (t : Tree k) → P (any t)
 induct P step (bag k) = step Word.Bag (k ∷ []) [] (record { kind = refl; numbers = refl; parts = refl; folded = λ f. refl }) tt
 induct P step (keep b c) = step Keep [] (any b ∷ any c ∷ []) (record { kind = refl; numbers = refl; parts = refl; folded = λ f. refl }) (induct P step b, (induct P step c, tt))
 induct P step (put j b t) = step Put (j ∷ []) (any b ∷ any t ∷ []) (record { kind = refl; numbers = refl; parts = refl; folded = λ f. refl }) (induct P step b, (induct P step t, tt))

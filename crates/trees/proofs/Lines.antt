@@ -4,7 +4,7 @@ use mathlib.Core.List.{head-eq_of_cons-eq, tail-eq_of_cons-eq}
 use lib.Signed.{mag}
 use Rattle.std.proofs.lemmas.Fmt.{decimal_by_steps, signed_decimal_injective}
 use Rattle.std.proofs.ByRecursion.{All-push}
-use Rattle.std.specs.List.{flat_map, AllByRecursion as All}
+use Rattle.std.specs.List.{flat_map, AllByRecursion}
 use Rattle.std.specs.Int.{IsInRange}
 use Rattle.std.specs.Fmt.{signed_decimal}
 use Rattle.trees.proofs.Spelling.{letters, spelled_apart}
@@ -23,7 +23,7 @@ stops_weaker P Q weaker [] s = tt
 stops_weaker P Q weaker (x ∷ xs) s = λ p. s (weaker x p)
 
 -- two texts that begin with bytes of P part where these end
-run_apart : (P : ℕ → Type 0) (xs ys zs us : List ℕ) → All P xs → All P ys → Stops P zs → Stops P us → xs ++ zs ≡ ys ++ us → (xs ≡ ys) × (zs ≡ us)
+run_apart : (P : ℕ → Type 0) (xs ys zs us : List ℕ) → AllByRecursion P xs → AllByRecursion P ys → Stops P zs → Stops P us → xs ++ zs ≡ ys ++ us → (xs ≡ ys) × (zs ≡ us)
 run_apart P [] [] zs us p q s t e = (refl, e)
 run_apart P [] (y ∷ ys) zs us p q s t e = absurd (subst (Stops P) e s q.0)
 run_apart P (x ∷ xs) [] zs us p q s t e = absurd (subst (Stops P) (sym e) t p.0)
@@ -35,14 +35,14 @@ run_apart P (x ∷ xs) (y ∷ ys) zs us p q s t e =
 abbrev Figure : ℕ → Type 0
 Figure c = IsInRange 45 57 c
 
-figures_decimal : (n : ℕ) → n < 2 ^ 64 → All Figure (decimal n)
-figures_decimal = decimal_by_steps (λ m ds. All Figure ds) (λ m l. ((omega arith, omega arith), tt)) (λ m ds l h. All-push Figure ds (48 + m % 10) h (omega arith, omega arith))
+figures_decimal : (n : ℕ) → n < 2 ^ 64 → AllByRecursion Figure (decimal n)
+figures_decimal = decimal_by_steps (λ m ds. AllByRecursion Figure ds) (λ m l. ((omega arith, omega arith), tt)) (λ m ds l h. All-push Figure ds (48 + m % 10) h (omega arith, omega arith))
 
 -- a number of 64 bits
 abbrev pub Fits : ℤ → Type 0
 Fits z = nat_abs z ≤ 2 ^ 63 - 1
 
-figures_signed : (z : ℤ) → Fits z → All Figure (signed_decimal z)
+figures_signed : (z : ℤ) → Fits z → AllByRecursion Figure (signed_decimal z)
 figures_signed (pos n) f = figures_decimal n (omega arith)
 figures_signed (negsuc n) f = ((omega arith, omega arith), figures_decimal (suc n) (omega arith))
 
@@ -61,7 +61,7 @@ stops_spaced : (P : ℕ → Type 0) → (P 32 → ⊥) → (ns : List ℤ) (xs :
 stops_spaced P none [] xs s = s
 stops_spaced P none (n ∷ ns) xs s = none
 
-numbers_apart : (ns ms : List ℤ) (xs ys : List ℕ) → All Fits ns → All Fits ms → Stops Inner xs → Stops Inner ys → spaced ns ++ xs ≡ spaced ms ++ ys → (ns ≡ ms) × (xs ≡ ys)
+numbers_apart : (ns ms : List ℤ) (xs ys : List ℕ) → AllByRecursion Fits ns → AllByRecursion Fits ms → Stops Inner xs → Stops Inner ys → spaced ns ++ xs ≡ spaced ms ++ ys → (ns ≡ ms) × (xs ≡ ys)
 numbers_apart [] [] xs ys f g s t e = (refl, e)
 numbers_apart [] (m ∷ ms) xs ys f g s t e = absurd (subst (Stops Inner) e s (inl refl))
 numbers_apart (n ∷ ns) [] xs ys f g s t e = absurd (subst (Stops Inner) (sym e) t (inl refl))
@@ -72,7 +72,7 @@ numbers_apart (n ∷ ns) (m ∷ ms) xs ys f g s t e =
     let rest = numbers_apart ns ms xs ys f.1 g.1 s t r.1 in
     (ap₂ (λ (k : ℤ) (ks : List ℤ). k ∷ ks) (signed_decimal_injective n m (mag_fits n f.0) (mag_fits m g.0) r.0) rest.0, rest.1)
 
-head_apart : (w v : Word) (ns ms : List ℤ) (xs ys : List ℕ) → All Fits ns → All Fits ms → Stops Inner xs → Stops Inner ys → heading w ns ++ xs ≡ heading v ms ++ ys → (w ≡ v) × (ns ≡ ms) × (xs ≡ ys)
+head_apart : (w v : Word) (ns ms : List ℤ) (xs ys : List ℕ) → AllByRecursion Fits ns → AllByRecursion Fits ms → Stops Inner xs → Stops Inner ys → heading w ns ++ xs ≡ heading v ms ++ ys → (w ≡ v) × (ns ≡ ms) × (xs ≡ ys)
 head_apart w v ns ms xs ys f g s t e =
     let stops : (ks : List ℤ) (zs : List ℕ) → Stops Inner zs → Stops (IsInRange 97 122) (spaced ks ++ zs) = λ ks zs u. stops_spaced (IsInRange 97 122) (λ i. omega arith) ks zs (stops_weaker (IsInRange 97 122) Inner (λ c i. inr (omega arith)) zs u) in
     let parts = sym (append_assoc (entry w).spelling (spaced ns) xs) ∙ e ∙ append_assoc (entry v).spelling (spaced ms) ys in
@@ -81,12 +81,12 @@ head_apart w v ns ms xs ys f g s t e =
     (spelled_apart w v r.0, rest.0, rest.1)
 
 -- the same of a form's line, up to what ends it
-form_apart : (w v : Word) (ns ms : List ℤ) (zs us xs ys : List ℕ) → All Fits ns → All Fits ms → Stops Inner (zs ++ xs) → Stops Inner (us ++ ys) → (codes "(" ++ (heading w ns ++ zs)) ++ xs ≡ (codes "(" ++ (heading v ms ++ us)) ++ ys → (w ≡ v) × (ns ≡ ms) × (zs ++ xs ≡ us ++ ys)
+form_apart : (w v : Word) (ns ms : List ℤ) (zs us xs ys : List ℕ) → AllByRecursion Fits ns → AllByRecursion Fits ms → Stops Inner (zs ++ xs) → Stops Inner (us ++ ys) → (codes "(" ++ (heading w ns ++ zs)) ++ xs ≡ (codes "(" ++ (heading v ms ++ us)) ++ ys → (w ≡ v) × (ns ≡ ms) × (zs ++ xs ≡ us ++ ys)
 form_apart w v ns ms zs us xs ys f g s t e =
     head_apart w v ns ms (zs ++ xs) (us ++ ys) f g s t (sym (append_assoc (heading w ns) zs xs) ∙ tail-eq_of_cons-eq e ∙ append_assoc (heading v ms) us ys)
 
 -- a line is told by its bytes, whatever follows
-pub line_apart : (l m : Line) (xs ys : List ℕ) → All Fits (line_numbers l) → All Fits (line_numbers m) → line_bytes l ++ xs ≡ line_bytes m ++ ys → (l ≡ m) × (xs ≡ ys)
+pub line_apart : (l m : Line) (xs ys : List ℕ) → AllByRecursion Fits (line_numbers l) → AllByRecursion Fits (line_numbers m) → line_bytes l ++ xs ≡ line_bytes m ++ ys → (l ≡ m) × (xs ≡ ys)
 line_apart (opening w ns) (opening v ms) xs ys f g e =
     let (p, q, r) = form_apart w v ns ms (10 ∷ []) (10 ∷ []) xs ys f g (λ i. omega arith) (λ i. omega arith) e in
     (ap₂ opening p q, tail-eq_of_cons-eq r)
@@ -110,7 +110,7 @@ not_empty (opening w ns) xs e = omega (arith, ap length e)
 not_empty (leaf w ns) xs e = omega (arith, ap length e)
 not_empty closing xs e = omega (arith, ap length e)
 
-pub same_from_bytes : (ls ms : List Line) → All (λ l. All Fits (line_numbers l)) ls → All (λ l. All Fits (line_numbers l)) ms → flat_map line_bytes ls ≡ flat_map line_bytes ms → ls ≡ ms
+pub same_from_bytes : (ls ms : List Line) → AllByRecursion (λ l. AllByRecursion Fits (line_numbers l)) ls → AllByRecursion (λ l. AllByRecursion Fits (line_numbers l)) ms → flat_map line_bytes ls ≡ flat_map line_bytes ms → ls ≡ ms
 same_from_bytes [] [] f g e = refl
 same_from_bytes [] (m ∷ ms) f g e = absurd (not_empty m (flat_map line_bytes ms) e)
 same_from_bytes (l ∷ ls) [] f g e = absurd (not_empty l (flat_map line_bytes ls) (sym e))

@@ -2,7 +2,7 @@
 use Rattle.std.proofs.Common.{◌≡◌, List, [], ◌∷◌, ◌++◌, length, take, drop, ℤ, sym, refl, ap, ◌∙◌, ap₂, append_assoc}
 use mathlib.Core.List.{head-eq_of_cons-eq}
 use Rattle.std.proofs.lemmas.List.{take_at, drop_at, length-map}
-use Rattle.std.specs.List.{flat_map, AllByRecursion as All}
+use Rattle.std.specs.List.{flat_map, AllByRecursion}
 use Rattle.trees.proofs.Induction.{make, folds, induct}
 use Rattle.trees.specs.declared.Kind.{Kind}
 use Rattle.trees.specs.declared.words.Word.{Word}
@@ -26,7 +26,7 @@ trees (closing ∷ ls) = trees ls
 abbrev Builds : AnyTree → Type 0
 Builds p = (rest : List Line) → trees (lines p.1 ++ rest) ≡ p ∷ trees rest
 
-build_parts : (ps : List AnyTree) → All Builds ps → (rest : List Line) → trees (flat_map (λ ls. ls) (folds form_lines ps) ++ rest) ≡ ps ++ trees rest
+build_parts : (ps : List AnyTree) → AllByRecursion Builds ps → (rest : List Line) → trees (flat_map (λ ls. ls) (folds form_lines ps) ++ rest) ≡ ps ++ trees rest
 build_parts [] all rest = refl
 build_parts (p ∷ ps) all rest =
     let later : List Line = flat_map (λ ls. ls) (folds form_lines ps) in
@@ -36,7 +36,7 @@ build_parts (p ∷ ps) all rest =
 take_parts : (w : Word) (ns : List ℤ) (ps ts : List AnyTree) → length ps ≡ length (entry w).parts → opened w ns (ps ++ ts) ≡ make w ns ps ∷ ts
 take_parts w ns ps ts e = ap₂ (λ (xs ys : List AnyTree). make w ns xs ∷ ys) (take_at ps ts (length (entry w).parts) e) (drop_at ps ts (length (entry w).parts) e)
 
-build_form : (w : Word) (ns : List ℤ) (ps : List AnyTree) → length ps ≡ length (entry w).parts → All Builds ps → (rest : List Line) → trees (form_lines w ns (folds form_lines ps) ++ rest) ≡ make w ns ps ∷ trees rest
+build_form : (w : Word) (ns : List ℤ) (ps : List AnyTree) → length ps ≡ length (entry w).parts → AllByRecursion Builds ps → (rest : List Line) → trees (form_lines w ns (folds form_lines ps) ++ rest) ≡ make w ns ps ∷ trees rest
 build_form w ns [] few all rest = refl
 build_form w ns (p ∷ ps) few all rest =
     ap (λ (ls : List Line). opened w ns (trees ls)) (append_assoc (flat_map (λ ls. ls) (folds form_lines (p ∷ ps))) (closing ∷ []) rest)

@@ -3,7 +3,7 @@ use Rattle.std.proofs.Common.{◌≡◌, ℕ, ◌+◌, ◌<◌, Bool, true, fals
 use Rattle.std.proofs.lemmas.Slice.Eq.{bytes_eq-Decides}
 use Rattle.std.proofs.lemmas.List.{drop_more}
 use Rattle.std.proofs.lemmas.Bool.{cond-true, cond-false, cases_Bool, and_parts, leb-true}
-use Rattle.std.specs.List.{AllByRecursion as All}
+use Rattle.std.specs.List.{AllByRecursion}
 use Rattle.std.specs.Str.{bytes_eq}
 use Rattle.std.specs.Int.{IsInRange, is_in_range}
 use Rattle.trees.specs.declared.words.Word.{Word}
@@ -90,14 +90,14 @@ pub each_word : (test : Word → Bool) → every test all_words ≡ true → (w 
 unfolding word_spelled
 each_word test all w = found_passes test all_words (entry w).spelling w all (found w)
 
-pub all_from_every : {X : Type 0} (test : X → Bool) (P : X → Type 0) → ((x : X) → test x ≡ true → P x) → (xs : List X) → every test xs ≡ true → All P xs
+pub all_from_every : {X : Type 0} (test : X → Bool) (P : X → Type 0) → ((x : X) → test x ≡ true → P x) → (xs : List X) → every test xs ≡ true → AllByRecursion P xs
 all_from_every test P passed [] all = tt
 all_from_every test P passed (x ∷ xs) all =
     let (here, later) = and_parts (test x) (every test xs) all in
     (passed x here, all_from_every test P passed xs later)
 
 -- a word is spelled with lower-case letters
-pub letters : (w : Word) → All (IsInRange 97 122) (entry w).spelling
+pub letters : (w : Word) → AllByRecursion (IsInRange 97 122) (entry w).spelling
 letters w =
     all_from_every (is_in_range 97 122) (IsInRange 97 122) (λ c e. let (lo, hi) = and_parts (leb 97 c) (leb c 122) e in (leb-true 97 c lo, leb-true c 122 hi)) (entry w).spelling
     (each_word (λ v. every (is_in_range 97 122) (entry v).spelling) refl w)

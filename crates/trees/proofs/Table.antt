@@ -1,6 +1,6 @@
 -- The table of words tells what stands in a form.
 use Rattle.std.proofs.Common.{◌≡◌, List, [], ◌∷◌, map, length, sym, refl, ap, ◌∙◌, ap₂}
-use Rattle.std.specs.List.{AllByRecursion as All}
+use Rattle.std.specs.List.{AllByRecursion}
 use Rattle.trees.proofs.Induction.{make, folds, induct}
 use Rattle.trees.specs.declared.Kind.{Kind}
 use Rattle.trees.specs.declared.words.Word.{Word}
@@ -12,7 +12,7 @@ use Rattle.trees.specs.Words.{entry}
 abbrev ByTable : AnyTree → Type 0
 ByTable p = ((fold form_kinds p.1).0 ≡ p.0) × ((p.0 ≡ (entry (word_of p.1)).kind) × (length (numbers_of p.1) ≡ (entry (word_of p.1)).numbers) × (part_kinds p.1 ≡ (entry (word_of p.1)).parts))
 
-own_kinds : (ps : List AnyTree) → All ByTable ps → map (λ x. x.0) (folds form_kinds ps) ≡ map (λ p. p.0) ps
+own_kinds : (ps : List AnyTree) → AllByRecursion ByTable ps → map (λ x. x.0) (folds form_kinds ps) ≡ map (λ p. p.0) ps
 own_kinds [] all = refl
 own_kinds (p ∷ ps) all = ap₂ (λ (k : Kind) (ks : List Kind). k ∷ ks) all.0.0 (own_kinds ps all.1)
 

@@ -1,7 +1,7 @@
 -- The size of a tree: how many forms, how deep, how large its numbers; and the limits of a query.
 use Rattle.std.specs.Prelude.{ℕ, suc, ◌≤◌, max, List, ◌++◌, ℤ, sum, unsigned_abs}
 use mathlib.Core.List.{foldr}
-use Rattle.std.specs.List.{flat_map, AllByRecursion as All}
+use Rattle.std.specs.List.{flat_map, AllByRecursion}
 use Rattle.trees.specs.declared.Kind.{Kind}
 use Rattle.trees.specs.declared.words.Word.{Word}
 use Rattle.trees.specs.Fold.{fold}
@@ -29,7 +29,7 @@ abbrev pub numbers : {k : Kind} → Tree k → List ℤ
 numbers t = fold form_numbers t
 
 abbrev pub NumbersWithin : ℕ → {k : Kind} → Tree k → Type 0
-NumbersWithin bound t = All (λ n. unsigned_abs n ≤ bound) (numbers t)
+NumbersWithin bound t = AllByRecursion (λ n. unsigned_abs n ≤ bound) (numbers t)
 
 -- the limits of a query
 

@@ -5,7 +5,7 @@ use Rattle.refusals.specs.Rules.{or_else, or_else_none, refusal, unless, unless_
 use Rattle.refusals.specs.declared.Refusal.{Refusal}
 use Rattle.sources.specs.declared.shapes.Range.{Range}
 use Rattle.std.proofs.lemmas.Bool.{and_parts}
-use Rattle.std.specs.List.{AllByRecursion as All}
+use Rattle.std.specs.List.{AllByRecursion}
 use Rattle.forms.specs.Limits.{number_bound}
 use Rattle.forms.specs.Lined.{past}
 use Rattle.forms.specs.Table.{BagTree, NumberTree, TermTree}
@@ -118,7 +118,7 @@ settled_good n first x e =
 abbrev Near : ℤ → Type 0
 Near z = nat_abs z ≤ literal_bound
 
-pub small_one : (a : NumberTree) → All Near (numbers a ++ []) → NumbersWithin literal_bound a
+pub small_one : (a : NumberTree) → AllByRecursion Near (numbers a ++ []) → NumbersWithin literal_bound a
 small_one a all = (all_split Near (numbers a) [] all).0
 
 -- what is left of a bound on the depth for each of two parts
@@ -128,7 +128,7 @@ pub record PartsSmall (spare : ℕ) (a b : NumberTree) : Type 0 where
   pub first_depth : depth a < spare
   pub second_depth : depth b < spare
 
-pub small_two : (mk : NumberTree → NumberTree → NumberTree) (spare : ℕ) (t a b : NumberTree) → t ≡ mk a b → NumbersWithin literal_bound t → depth t ≤ spare → (NumbersWithin literal_bound (mk a b) → All Near (numbers a ++ (numbers b ++ []))) → depth (mk a b) ≡ suc (max (depth a) (max (depth b) 0)) → PartsSmall spare a b
+pub small_two : (mk : NumberTree → NumberTree → NumberTree) (spare : ℕ) (t a b : NumberTree) → t ≡ mk a b → NumbersWithin literal_bound t → depth t ≤ spare → (NumbersWithin literal_bound (mk a b) → AllByRecursion Near (numbers a ++ (numbers b ++ []))) → depth (mk a b) ≡ suc (max (depth a) (max (depth b) 0)) → PartsSmall spare a b
 small_two mk spare t a b is small deep own depths =
     let ns = all_split Near (numbers a) (numbers b ++ []) (own (subst (NumbersWithin literal_bound) is small)) in
     let d : depth t ≡ suc (max (depth a) (max (depth b) 0)) = ap depth is ∙ depths in

@@ -1,6 +1,6 @@
 use Rattle.std.proofs.Common.{ℕ, zero, suc, ◌<◌, [], length, get_or, pos, refl, ap, subst, arith}
 use Rattle.sources.specs.Source.{Fits}
-use Rattle.std.specs.List.{AllByRecursion as All}
+use Rattle.std.specs.List.{AllByRecursion}
 use Rattle.trees.specs.Meaning.{number, value}
 use Rattle.rules.specs.Catalogue.{setting_range}
 use Rattle.rules.specs.Sound.{Fitting, Plant, RulesKeep, inputs_of}
@@ -17,7 +17,7 @@ module _ (c : Catalogue) (p : Plant) (f : Fitting c p) where
       let s = f.first_shape in
       let l = f.first_lawful in
       record {
-        some_rows = subst (λ cs. All (Fits cs) p.first.rows) s.columns l.rows_fit;
+        some_rows = subst (λ cs. AllByRecursion (Fits cs) p.first.rows) s.columns l.rows_fit;
         few_rows = omega (arith, l.in_limit, s.limit);
         few_columns = omega (arith, ap length s.columns, l.all_columns, l.few_columns);
       }
@@ -25,7 +25,7 @@ module _ (c : Catalogue) (p : Plant) (f : Fitting c p) where
       let s = f.second_shape in
       let l = f.second_lawful in
       record {
-        some_rows = subst (λ cs. All (Fits cs) p.second.rows) s.columns l.rows_fit;
+        some_rows = subst (λ cs. AllByRecursion (Fits cs) p.second.rows) s.columns l.rows_fit;
         few_rows = omega (arith, l.in_limit, s.limit);
         few_columns = omega (arith, ap length s.columns, l.all_columns, l.few_columns);
       }
