@@ -12,19 +12,19 @@ use Rattle.forms.specs.Limits.{cells, term_bound}
 use Rattle.forms.specs.Padding.{Blind, Unseen, padded}
 use Rattle.forms.specs.Table.{ConditionTree, TermTree}
 
-getD_zeros : (n i : ℕ) → get_or (replicate n (pos 0)) i (pos 0) ≡ pos 0
-getD_zeros zero i = refl
-getD_zeros (suc n) zero = refl
-getD_zeros (suc n) (suc i) = getD_zeros n i
+get_or_zeros : (n i : ℕ) → get_or (replicate n (pos 0)) i (pos 0) ≡ pos 0
+get_or_zeros zero i = refl
+get_or_zeros (suc n) zero = refl
+get_or_zeros (suc n) (suc i) = get_or_zeros n i
 
 -- a cell beyond the row reads 0, with zeros behind the row or without
-getD_padding : (r : Row) (n i : ℕ) → get_or (r ++ replicate n (pos 0)) i (pos 0) ≡ get_or r i (pos 0)
-getD_padding [] n i = getD_zeros n i
-getD_padding (x ∷ r) n zero = refl
-getD_padding (x ∷ r) n (suc i) = getD_padding r n i
+get_or_padding : (r : Row) (n i : ℕ) → get_or (r ++ replicate n (pos 0)) i (pos 0) ≡ get_or r i (pos 0)
+get_or_padding [] n i = get_or_zeros n i
+get_or_padding (x ∷ r) n zero = refl
+get_or_padding (x ∷ r) n (suc i) = get_or_padding r n i
 
 at_padded : (r : Row) (j : ℤ) → at (padded r) j (pos 0) ≡ at r j (pos 0)
-at_padded r (pos i) = getD_padding r (cells - length r) i
+at_padded r (pos i) = get_or_padding r (cells - length r) i
 at_padded r (negsuc i) = refl
 
 mutual
@@ -105,7 +105,7 @@ length_padded r h = omega (arith, length-append r (replicate (cells - length r) 
 pub unseen : Unseen
 unseen =
     record {
-      read = λ xs r long short h. ext_get_or (pos 0) xs (padded r) (long ∙ sym (length_padded r short)) (λ j k. h j (omega (arith, long)) ∙ sym (getD_padding r (cells - length r) j));
+      read = λ xs r long short h. ext_get_or (pos 0) xs (padded r) (long ∙ sym (length_padded r short)) (λ j k. h j (omega (arith, long)) ∙ sym (get_or_padding r (cells - length r) j));
       terms = value_padded;
       calm = calm_way;
       arrives = λ g blind way r h. ap (arriving g) (carried_padded way r h) ∙ taken g blind (carried way r);

@@ -9,7 +9,7 @@ use crate::form::{Entry, Form, form_at};
 use crate::limits::CELLS;
 
 // The value on `row` of the term at a position. The cost is linear in its size.
-#[cycle(eval_condition_eval_term)]
+#[cycle(terms_and_conditions)]
 pub fn eval_term(entries: &[Entry], at: usize, row: &[i64; CELLS]) -> i64
     requires { CalmTermAt entries.now at row.now }
     ensures { (t : TermTree) → part_at entries.now at ≡ a_term t → result ≡ value t row.now }
@@ -37,7 +37,7 @@ pub fn eval_term(entries: &[Entry], at: usize, row: &[i64; CELLS]) -> i64
 }
 
 // Whether the condition at a position holds on `row`. The cost is linear in its size.
-#[cycle(eval_condition_eval_term)]
+#[cycle(terms_and_conditions)]
 pub fn eval_condition(entries: &[Entry], at: usize, row: &[i64; CELLS]) -> bool
     requires { CalmConditionAt entries.now at row.now }
     ensures { (c : ConditionTree) → part_at entries.now at ≡ a_condition c → result ≡ holds c row.now }

@@ -5,21 +5,21 @@ use Rattle.std.proofs.lemmas.Int.{ints, to_z-of_z, to_z_pos}
 use Rattle.std.proofs.lemmas.Bool.{and_parts, leb-true}
 use Rattle.rules.specs.Ranges.{bounded}
 
-natAbs_neg : (r : ℕ) → nat_abs (neg_ℤ (pos r)) ≡ r
-natAbs_neg zero = refl
-natAbs_neg (suc r) = refl
+nat_abs_neg : (r : ℕ) → nat_abs (neg_ℤ (pos r)) ≡ r
+nat_abs_neg zero = refl
+nat_abs_neg (suc r) = refl
 
-natAbs_product : (x y : ℤ) → nat_abs (x *ℤ y) ≡ nat_abs x * nat_abs y
-natAbs_product (pos a) (pos b) = refl
-natAbs_product (pos a) (negsuc b) = natAbs_neg (a * suc b)
-natAbs_product (negsuc a) (pos b) = natAbs_neg (suc a * b)
-natAbs_product (negsuc a) (negsuc b) = refl
+nat_abs_product : (x y : ℤ) → nat_abs (x *ℤ y) ≡ nat_abs x * nat_abs y
+nat_abs_product (pos a) (pos b) = refl
+nat_abs_product (pos a) (negsuc b) = nat_abs_neg (a * suc b)
+nat_abs_product (negsuc a) (pos b) = nat_abs_neg (suc a * b)
+nat_abs_product (negsuc a) (negsuc b) = refl
 
 near_fits : (z : ℤ) → nat_abs z < 2 ^ 63 → SFits w64 z
 near_fits z h = omega (arith, ints)
 
 pub product_fits : (x y : ℤ) → SFits w64 x → SFits w64 y → nat_abs x * nat_abs y < 2 ^ 63 → SFits w64 (to_z w64 (of_z w64 x) *ℤ to_z w64 (of_z w64 y))
-product_fits x y f g h = subst (SFits w64) (sym (ap₂ ◌*ℤ◌ (to_z-of_z w64 x f) (to_z-of_z w64 y g))) (near_fits (x *ℤ y) (omega (arith, natAbs_product x y)))
+product_fits x y f g h = subst (SFits w64) (sym (ap₂ ◌*ℤ◌ (to_z-of_z w64 x f) (to_z-of_z w64 y g))) (near_fits (x *ℤ y) (omega (arith, nat_abs_product x y)))
 
 pub product_back : (x y : ℤ) → SFits w64 x → SFits w64 y → nat_abs x * nat_abs y < 2 ^ 63 → to_z w64 (of_z w64 (to_z w64 (of_z w64 x) *ℤ to_z w64 (of_z w64 y))) ≡ x *ℤ y
 product_back x y f g h = to_z-of_z w64 (to_z w64 (of_z w64 x) *ℤ to_z w64 (of_z w64 y)) (product_fits x y f g h) ∙ ap₂ ◌*ℤ◌ (to_z-of_z w64 x f) (to_z-of_z w64 y g)

@@ -1,6 +1,6 @@
+// Logs, ramps and unions at the edges of their bounds.
 #![tactic(auto)]
 
-// Logs, ramps and unions at the edges of their bounds.
 #[cfg(test)]
 mod tests {
     use sources::{Line, Log, Ramp, Range, Shape, Source, SourceFault, Union};

@@ -16,8 +16,8 @@ use Rattle.sources.specs.Source.{Lawful}
 use Rattle.sources.specs.Tabled.{tabled_lawful}
 use Rattle.sources.specs.declared.ramps.Line.{Line}
 
-leZ_true : (a b : ℤ) → a ≤ℤ b → int_le a b ≡ true
-leZ_true a b h = sym (true_is_le a b (le_out a b h))
+le_z_true : (a b : ℤ) → a ≤ℤ b → int_le a b ≡ true
+le_z_true a b h = sym (true_is_le a b (le_out a b h))
 
 -- element j of the values of f
 module _ (f : ℕ → ℤ) (n : ℕ) where
@@ -126,14 +126,14 @@ module _ (l : Line) (n : ℕ) (e : line_sound n l ≡ true) where
       (of_reached f n (λ z. near z ≡ true) first_near cells_near low (folded_min_z_reached (f 0) (listed f n) low refl))
       (and_from (near high) (int_le low high)
       (of_reached f n (λ z. near z ≡ true) first_near cells_near high (folded_max_z_reached (f 0) (listed f n) high refl))
-      (leZ_true low high ordered))
+      (le_z_true low high ordered))
 
   cell_within : (i : ℕ) → i < n → within (range_of l n) (cell_at l i) ≡ true
   cell_within i h =
       let f = cell_at l in
       let low = fold int_min (f 0) (listed f n) in
       let high = fold int_max (f 0) (listed f n) in
-      and_from (int_le low (f i)) (int_le (f i) high) (leZ_true low (f i) (least_below f n i h)) (leZ_true (f i) high (greatest_above f n i h))
+      and_from (int_le low (f i)) (int_le (f i) high) (le_z_true low (f i) (least_below f n i h)) (le_z_true (f i) high (greatest_above f n i h))
 
 pub ramp_lawful : (width count : ℕ) (ls : List Line) → lines_sound width count ls ≡ true → Lawful (ramp_meaning width count ls)
 ramp_lawful width count ls e =

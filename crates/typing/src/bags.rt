@@ -14,7 +14,7 @@ use types::bag::TypedBag;
 use types::fault::RuleFault;
 
 // Types the bag at a position, and notes each form of it. Linear in its size.
-#[cycle(bag_draft_bag)]
+#[cycle(typed_bags)]
 pub fn bag(
     entries: &[Entry],
     catalogue: &Catalogue,
@@ -33,7 +33,7 @@ pub fn bag(
 }
 
 // The type of the bag at a position, before it is noted.
-#[cycle(bag_draft_bag)]
+#[cycle(typed_bags)]
 fn draft_bag(
     entries: &[Entry],
     catalogue: &Catalogue,

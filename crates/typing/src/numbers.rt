@@ -19,7 +19,7 @@ use types::number::TypedNumber;
 use types::variables::Variables;
 
 // Types the number at a position, and notes each form of it. Linear in its size.
-#[cycle(draft_number_number_two_numbers)]
+#[cycle(typed_numbers)]
 pub fn number(
     entries: &[Entry],
     catalogue: &Catalogue,
@@ -40,7 +40,7 @@ pub fn number(
 }
 
 // The type of the number at a position, before it is held to its bounds.
-#[cycle(draft_number_number_two_numbers)]
+#[cycle(typed_numbers)]
 fn draft_number(
     entries: &[Entry],
     catalogue: &Catalogue,
@@ -114,7 +114,7 @@ fn draft_number(
 }
 
 // One number, and the number behind it.
-#[cycle(draft_number_number_two_numbers)]
+#[cycle(typed_numbers)]
 fn two_numbers(
     entries: &[Entry],
     catalogue: &Catalogue,

@@ -30,7 +30,7 @@ pub fn entry_at(entries: &[Entry], at: usize) -> Entry
 }
 
 // Types the term at a position, and notes each form of it. Linear in its size.
-#[cycle(condition_condition_parts_draft_term_term_two_terms)]
+#[cycle(typed_terms)]
 pub fn term(
     entries: &[Entry],
     at: usize,
@@ -60,7 +60,7 @@ fn settle_term(range: Range, line: usize) -> Result<(), RuleFault>
 }
 
 // The range of the term at a position, before it is held to its bound.
-#[cycle(condition_condition_parts_draft_term_term_two_terms)]
+#[cycle(typed_terms)]
 fn draft_term(
     entries: &[Entry],
     at: usize,
@@ -107,7 +107,7 @@ fn column_range(shape: &Shape, at: i64, line: usize) -> Result<Range, RuleFault>
 }
 
 // One term, and the term behind it.
-#[cycle(condition_condition_parts_draft_term_term_two_terms)]
+#[cycle(typed_terms)]
 fn two_terms(
     entries: &[Entry],
     left: usize,
@@ -126,7 +126,7 @@ fn two_terms(
 }
 
 // Types the terms of the condition at a position, and notes each form of it. Linear in its size.
-#[cycle(condition_condition_parts_draft_term_term_two_terms)]
+#[cycle(typed_terms)]
 pub fn condition(
     entries: &[Entry],
     at: usize,
@@ -144,7 +144,7 @@ pub fn condition(
     Ok(())
 }
 
-#[cycle(condition_condition_parts_draft_term_term_two_terms)]
+#[cycle(typed_terms)]
 fn condition_parts(
     entries: &[Entry],
     at: usize,

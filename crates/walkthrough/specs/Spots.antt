@@ -10,14 +10,14 @@ use Rattle.std.proofs.lemmas.Bool.{and_from}
 abbrev pub spot_meaning : ℤ → ℤ → Meaning
 spot_meaning minute density = record { width = 2; limit = 1; columns = range minute minute ∷ range density density ∷ []; rows = (minute ∷ density ∷ []) ∷ [] }
 
-leZ_self : (z : ℤ) → int_le z z ≡ true
-leZ_self z = sym (true_is_le z z (le_out z z (≤ℤ_refl z)))
+le_z_self : (z : ℤ) → int_le z z ≡ true
+le_z_self z = sym (true_is_le z z (le_out z z (≤ℤ_refl z)))
 
 point_sound : (z : ℤ) → near z ≡ true → sound (range z z) ≡ true
-point_sound z e = and_from (near z) (near z && int_le z z) e (and_from (near z) (int_le z z) e (leZ_self z))
+point_sound z e = and_from (near z) (near z && int_le z z) e (and_from (near z) (int_le z z) e (le_z_self z))
 
 point_within : (z : ℤ) → within (range z z) z ≡ true
-point_within z = and_from (int_le z z) (int_le z z) (leZ_self z) (leZ_self z)
+point_within z = and_from (int_le z z) (int_le z z) (le_z_self z) (le_z_self z)
 
 pub spot_lawful : (minute density : ℤ) → near minute ≡ true → near density ≡ true → Lawful (spot_meaning minute density)
 spot_lawful minute density p q =

@@ -23,7 +23,7 @@ use Rattle.typing.proofs.Noting.{noted_both, noted_none, noted_whole}
 use Rattle.typing.proofs.Replies.{replied}
 use Rattle.typing.proofs.Splits.{opens, within}
 use Rattle.typing.proofs.Words.{of_keep, of_leaf, of_pool, of_put}
-use Rattle.typing.proofs.bags.+bag_draft_bag.Goals as goal
+use Rattle.typing.proofs.bags.+typed_bags.Goals as goal
 
 -- more forms allow for more rows
 wider : (i j : ℕ) (x y : TypedBag) → i ≤ j → y.shape.width ≡ x.shape.width → y.shape.limit ≡ x.shape.limit → y.inputs ≡ x.inputs → BagGood (max_rows * i) x → BagGood (max_rows * j) y

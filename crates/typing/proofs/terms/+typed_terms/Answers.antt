@@ -21,7 +21,7 @@ use Rattle.typing.proofs.Replies.{drafted}
 use Rattle.typing.proofs.Splits.{opens, within}
 use Rattle.typing.proofs.TermSteps.{behind, condition_own, condition_some, either_first, either_stops, less_goes, less_stops, pick_goes, pick_stops, pick_stops_later, plus_goes, plus_stops, settled_within, term_own, term_some, terms_two, times_goes, times_stops, wider}
 use Rattle.typing.proofs.Words.{of_either, of_equal, of_leaf, of_less, of_not, of_pick, of_plus, of_times}
-use Rattle.typing.proofs.terms.+condition_condition_parts_draft_term_term_two_terms.Goals as goal
+use Rattle.typing.proofs.terms.+typed_terms.Goals as goal
 
 pub term-entry_at-entry-requires : goal.term-entry_at-entry-requires
 term-entry_at-entry-requires t c = within c.requires.is.3

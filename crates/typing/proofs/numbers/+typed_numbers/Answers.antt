@@ -26,7 +26,7 @@ use Rattle.typing.proofs.NumberSteps.{clip_goes, clip_stops, count_goes, count_s
 use Rattle.typing.proofs.Replies.{drafted}
 use Rattle.typing.proofs.Splits.{opens, within}
 use Rattle.typing.proofs.Words.{of_add, of_clip, of_count, of_leaf, of_least, of_let, of_most, of_scale, of_sub, of_sum}
-use Rattle.typing.proofs.numbers.+draft_number_number_two_numbers.Goals as goal
+use Rattle.typing.proofs.numbers.+typed_numbers.Goals as goal
 
 -- a part that is shallower than its whole, in the same scope or in one with a variable more
 part : (v : Variables) {es : List Entry} {p n o : ℕ} {t : NumberTree} → FormAt es p n o t → NumbersWithin literal_bound t → depth t < spare v → NumberAt es v p n o t

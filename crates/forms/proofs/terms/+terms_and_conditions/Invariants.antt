@@ -1,4 +1,4 @@
-use Rattle.forms.proofs.terms.+eval_condition_eval_term.Given as goal
+use Rattle.forms.proofs.terms.+terms_and_conditions.Given as goal
 
 abbrev pub decreases-eval_condition : goal.decreases-eval_condition
 decreases-eval_condition l = l.at

@@ -10,7 +10,7 @@ use Rattle.forms.specs.Table.{ConditionTree, TermTree, of_one, of_three, of_two,
 use Rattle.forms.specs.Table.Part.{a_condition, a_term}
 use Rattle.forms.proofs.Parts.{Family, Known, One, Three, Two, conditions, for_all, one, reached, terms, three, two}
 use Rattle.forms.proofs.Signs.{back, op_fits, op_is, same_bits}
-use Rattle.forms.proofs.terms.+eval_condition_eval_term.Goals as goal
+use Rattle.forms.proofs.terms.+terms_and_conditions.Goals as goal
 
 -- what is known of the term or the condition at the position
 abbrev term : {es : List Entry} {p : ℕ} {r : Row} → CalmTermAt es p r → Known terms (λ t. CalmTerm t r) es p
