@@ -1,6 +1,7 @@
 -- The table of words: how each is spelled, what its form gives, how many numbers follow it, and the kinds of its parts.
-use Rattle.std.specs.Prelude.{◌≡◌, ℕ, cond, List, [], ◌∷◌, Some, None, codes, Option}
+use Rattle.std.specs.Prelude.{◌≡◌, ℕ, Bool, cond, List, [], ◌∷◌, Some, None, codes, Option}
 use Prim.Native.String.{String}
+use Rattle.std.specs.Ordering.{on}
 use Rattle.std.specs.Str.{bytes_eq}
 use Rattle.trees.specs.declared.Kind.{Kind}
 use Rattle.trees.specs.declared.Kind.TheVariants.{Term, Condition, Bag, Number}
@@ -49,33 +50,9 @@ entry Let = row "let" Number 0 (Number ∷ Number ∷ [])
 abbrev pub all_words : List Word
 all_words = Word.Bag ∷ Keep ∷ Put ∷ Pool ∷ Col ∷ Lit ∷ Plus ∷ Times ∷ Pick ∷ Less ∷ Equal ∷ Either ∷ Not ∷ Num ∷ Setting ∷ Var ∷ Count ∷ Sum ∷ Add ∷ Sub ∷ Least ∷ Most ∷ Scale ∷ Clip ∷ Let ∷ []
 
--- where a word stands among them, from 0
-abbrev pub word_index : Word → ℕ
-word_index Word.Bag = 0
-word_index Keep = 1
-word_index Put = 2
-word_index Pool = 3
-word_index Col = 4
-word_index Lit = 5
-word_index Plus = 6
-word_index Times = 7
-word_index Pick = 8
-word_index Less = 9
-word_index Equal = 10
-word_index Either = 11
-word_index Not = 12
-word_index Num = 13
-word_index Setting = 14
-word_index Var = 15
-word_index Count = 16
-word_index Sum = 17
-word_index Add = 18
-word_index Sub = 19
-word_index Least = 20
-word_index Most = 21
-word_index Scale = 22
-word_index Clip = 23
-word_index Let = 24
+-- whether two words are spelled alike
+abbrev pub spelled_alike : Word → Word → Bool
+spelled_alike = on (λ w. (entry w).spelling) bytes_eq
 
 -- the first of ws that is spelled bs
 abbrev pub spelled_in : List Word → List ℕ → Option Word
@@ -93,7 +70,3 @@ Names bs r = (w : Word) → (r ≡ Some w → bs ≡ (entry w).spelling) × (bs 
 -- no two words are spelled alike
 abbrev pub SpelledApart : Type 0
 SpelledApart = (v w : Word) → (entry v).spelling ≡ (entry w).spelling → v ≡ w
-
--- no two words stand at one place
-abbrev pub IndexedApart : Type 0
-IndexedApart = (v w : Word) → word_index v ≡ word_index w → v ≡ w

@@ -1,9 +1,8 @@
 // The words of a query, by one table: how each is spelled, what its form gives, and what stands in it.
-ghost use Rattle.std.specs.Prelude.{◌≡◌, ◌==◌, Decides};
-ghost use Rattle.trees.specs.Words.{entry, all_words, spelled_in, word_index, word_spelled, IndexedApart, Names, SpelledApart};
+ghost use Rattle.std.specs.Prelude.{◌≡◌, Decides};
+ghost use Rattle.trees.specs.Words.{entry, all_words, spelled_alike, spelled_in, word_spelled, Names, SpelledApart};
 ghost use Rattle.std.specs.Cmp.Rules.{comparing};
 ghost use Rattle.std.proofs.Common.{rules};
-ghost use Rattle.std.specs.Ordering.{on};
 ghost use Rattle.std.specs.Cmp as Keys;
 
 use crate::Kind;
@@ -37,15 +36,15 @@ pub enum Word {
     Let,
 }
 
+// Words are compared by their places; that comes to the same as comparing how they are spelled.
 impl PartialEq for Word {
-    ghost eq = { on word_index ◌==◌ };
+    ghost eq = { spelled_alike };
 
     ghost laws = { Keys.partial_equiv_from_equiv (Prim.search (comparing, rules)) };
 
     fn eq(&self, other: &Word) -> bool
-        ensures value { result ≡ on word_index ◌==◌ self.now other.now }
+        ensures value { result ≡ spelled_alike self.now other.now }
         ensures same { Decides result (self.now ≡ other.now) }
-        ensures apart { IndexedApart }
     {
         *self as u8 == *other as u8
     }
