@@ -1,8 +1,12 @@
 // What a call that says no tells its caller, in one form for all layers.
 #![tactic(auto)]
 
-ghost use Rattle.std.specs.Prelude.{◌≡◌};
+ghost use Rattle.std.specs.Prelude.{◌≡◌, Some};
+ghost use Rattle.refusals.specs.Rules.{refusal};
+ghost use Rattle.refusals.specs.Told.{printed};
 ghost use Rattle.refusals.specs.declared.Refusal.{Refusal};
+
+use std::fmt;
 
 // A number that names the reason, and two places, each 0 where there is none.
 #[derive(Clone, Copy, PartialEq, Eq, Debug)]
@@ -10,6 +14,30 @@ pub struct Refusal {
     pub number: u32,
     pub first: usize,
     pub second: usize,
+}
+
+impl Refusal {
+    pub fn new(number: u32, first: usize, second: usize) -> Refusal
+        ensures { result ≡ refusal number first second }
+    {
+        Refusal {
+            number,
+            first,
+            second,
+        }
+    }
+}
+
+// As `16 at 2 1`.
+impl fmt::Display for Refusal {
+    ghost output = { λ r. Some (printed r) };
+
+    fn fmt<W: fmt::Write>(&self, f: &mut fmt::Formatter<W>) -> fmt::Result {
+        let number = self.number;
+        let first = self.first;
+        let second = self.second;
+        write!(f, "{number} at {first} {second}")
+    }
 }
 
 // A reason to say no. Each layer has an enum of its own.
