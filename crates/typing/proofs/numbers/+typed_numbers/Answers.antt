@@ -15,8 +15,9 @@ use Rattle.rules.specs.Ranges.{differences, greater, lesser, point, sums, totals
 use Rattle.rules.specs.Typing.{NumberType, bag_typed, cut, index, multiple, number_rule, number_typed, place, scope_rule, settle, unbound, variable}
 use Rattle.trees.specs.Size.{NumbersWithin, depth, literal_bound, size}
 use Rattle.trees.specs.Tree.Tree.{num, setting, var, add, sub, least, most, let_in}
-use Rattle.types.specs.Shown.{NumberGood, in_scope, number_shown, spare}
-use Rattle.types.specs.declared.variables.Variables.{Variables}
+use Rattle.stacks.specs.Stack.{spare, stacked}
+use Rattle.types.specs.Shown.{NumberGood, number_shown}
+use Rattle.stacks.specs.declared.stack.Stack.{Stack}
 use Rattle.typing.specs.Notes.{bag_notes, columns_in, noted, noted_at, number_note, number_notes, of_number, range_in, term_notes}
 use Rattle.typing.specs.Numbers.{NumberAt, NumberDrafted}
 use Rattle.typing.specs.Told.{Drafted, FormAt}
@@ -29,10 +30,10 @@ use Rattle.typing.proofs.Words.{of_add, of_clip, of_count, of_leaf, of_least, of
 use Rattle.typing.proofs.numbers.+typed_numbers.Goals as goal
 
 -- a part that is shallower than its whole, in the same scope or in one with a variable more
-part : (v : Variables) {es : List Entry} {p n o : ℕ} {t : NumberTree} → FormAt es p n o t → NumbersWithin literal_bound t → depth t < spare v → NumberAt es v p n o t
+part : (v : Stack Range max_depth) {es : List Entry} {p n o : ℕ} {t : NumberTree} → FormAt es p n o t → NumbersWithin literal_bound t → depth t < spare v → NumberAt es v p n o t
 part v f s d = record { form = f; small = s; shallow = omega (arith, d) }
 
-inner_part : (v w : Variables) {es : List Entry} {p n o : ℕ} {t : NumberTree} → FormAt es p n o t → NumbersWithin literal_bound t → depth t < spare v → spare w + 1 ≡ spare v → NumberAt es w p n o t
+inner_part : (v w : Stack Range max_depth) {es : List Entry} {p n o : ℕ} {t : NumberTree} → FormAt es p n o t → NumbersWithin literal_bound t → depth t < spare v → spare w + 1 ≡ spare v → NumberAt es w p n o t
 inner_part v w f s d e = record { form = f; small = s; shallow = omega (arith, d) }
 
 pub number-entry_at-entry-requires : goal.number-entry_at-entry-requires
@@ -62,7 +63,7 @@ number-returns t c =
     λ n o tr at.
     let k = c.args.catalogue.now in
     let v = c.args.scope.now in
-    let rs = in_scope v in
+    let rs = stacked v in
     let x = number_shown (spare v) c.in_ok-typed.typed in
     let d = c.in_ok-typed.ensures n o tr at in
     let e = opens tr c.args.entries.now c.args.at n o at.form.lined in
@@ -75,7 +76,7 @@ pub two_numbers-returns : goal.two_numbers-returns
 two_numbers-returns t c =
     λ n o a b at bt.
     let k = c.args.catalogue.now in
-    let rs = in_scope c.args.scope.now in
+    let rs = stacked c.args.scope.now in
     let x = c.in_ok-x.ensures n o a at in
     let y = c.in_ok-y.ensures (past n a) (o + size a) b bt in
     let here : o + size a ≡ o + length (number_notes n k rs a) = ap (λ (i : ℕ). o + i) (sym (number_count a n k rs)) in
@@ -93,7 +94,7 @@ draft_number-returns-in-Num t c =
     let v = c.args.scope.now in
     let z = c.in-Num.value in
     let is = of_leaf at.form (num z) c.in-Num.ensures.stands in
-    let value = c.unbound.ensures v ∙ ap (λ (r : Range). unbound (in_scope v) r none) (c.point.ensures ∙ ap point (to_z-of_z w64 z (search rules))) in
+    let value = c.unbound.ensures v ∙ ap (λ (r : Range). unbound (stacked v) r none) (c.point.ensures ∙ ap point (to_z-of_z w64 z (search rules))) in
     subst (λ (u : NumberTree). NumberDrafted c.args.catalogue.now v n o u c.args.notes.now (Ok c.unbound.result) c.args.notes.now) (sym is)
     (ap (λ (w : NumberType). settle (number_rule n w) w) (sym value), sym (noted_none c.args.notes.now (o + 1)), tt)
 
@@ -105,7 +106,7 @@ draft_number-returns-in-Setting t c =
     let z = c.in-Setting.input in
     let line = ap (λ (y : Entry). y.line) c.entry_at-line.ensures ∙ (opens tr c.args.entries.now c.args.at n o at.form.lined).line in
     let is = of_leaf at.form (setting z) c.in-Setting.ensures.stands in
-    let type = λ (w : ℤ). unbound (in_scope v) (setting_range k (index w)) (one_at (2 + index w)) in
+    let type = λ (w : ℤ). unbound (stacked v) (setting_range k (index w)) (one_at (2 + index w)) in
     let value = c.of_setting.ensures v ∙ ap₂ (λ (i : ℕ) (w : ℤ). settle (scope_rule i (place 2 w)) (type w)) line (to_z-of_z w64 z (search rules)) in
     subst (λ (u : NumberTree). NumberDrafted k v n o u c.args.notes.now c.of_setting.result c.args.notes.now) (sym is)
     (drafted (number_shown (spare v)) (number_rule n) n (place 2 z) (type z) c.args.notes.now (o + 1) [] c.of_setting.result c.args.notes.now value (sym (noted_none c.args.notes.now (o + 1))))
@@ -118,9 +119,9 @@ draft_number-returns-in-Var t c =
     let z = c.in-Var.index in
     let line = ap (λ (y : Entry). y.line) c.entry_at-line.ensures ∙ (opens tr c.args.entries.now c.args.at n o at.form.lined).line in
     let is = of_leaf at.form (var z) c.in-Var.ensures.stands in
-    let value = c.of_variable.ensures ∙ ap₂ (λ (i : ℕ) (w : ℤ). settle (scope_rule i (place (length (in_scope v)) w)) (variable (in_scope v) (index w))) line (to_z-of_z w64 z (search rules)) in
+    let value = c.of_variable.ensures ∙ ap₂ (λ (i : ℕ) (w : ℤ). settle (scope_rule i (place (length (stacked v)) w)) (variable (stacked v) (index w))) line (to_z-of_z w64 z (search rules)) in
     subst (λ (u : NumberTree). NumberDrafted k v n o u c.args.notes.now c.of_variable.result c.args.notes.now) (sym is)
-    (drafted (number_shown (spare v)) (number_rule n) n (place (length (in_scope v)) z) (variable (in_scope v) (index z)) c.args.notes.now (o + 1) [] c.of_variable.result c.args.notes.now value (sym (noted_none c.args.notes.now (o + 1))))
+    (drafted (number_shown (spare v)) (number_rule n) n (place (length (stacked v)) z) (variable (stacked v) (index z)) c.args.notes.now (o + 1) [] c.of_variable.result c.args.notes.now value (sym (noted_none c.args.notes.now (o + 1))))
 
 pub draft_number-bag-requires : goal.draft_number-bag-requires
 draft_number-bag-requires t c =
@@ -133,7 +134,7 @@ draft_number-returns-in_err-rows-in-Count t c =
     rw (p.1, p.2)
     (λ n o tr at.
     let k = c.args.catalogue.now in
-    let rs = in_scope c.args.scope.now in
+    let rs = stacked c.args.scope.now in
     let i = of_count at.form c.in-Count.of (c.in-Count.ensures.value no_entry) c.in-Count.ensures.stands in
     ap (number_typed n k rs) i.is ∙ count_stops n k rs i.a _ (c.in_err-rows-in-Count.ensures (n + 1) (o + 1) i.a i.first))
 
@@ -150,7 +151,7 @@ draft_number-returns-in_ok-rows-in-Count t c =
     let i = of_count at.form c.in-Count.of (c.in-Count.ensures.value no_entry) c.in-Count.ensures.stands in
     let x = c.in_ok-rows-in-Count.ensures (n + 1) (o + 1) i.a i.first in
     subst (λ (u : NumberTree). NumberDrafted k v n o u c.args.notes.now (Ok c.of_count.result) c.bag.new.notes) (sym i.is)
-    (count_goes n k (in_scope v) i.a _ (number_shown (spare v) c.of_count.result) (c.of_count.ensures v) x.0, x.1, tt)
+    (count_goes n k (stacked v) i.a _ (number_shown (spare v) c.of_count.result) (c.of_count.ensures v) x.0, x.1, tt)
 
 pub draft_number-bag-requires-in-Sum : goal.draft_number-bag-requires-in-Sum
 draft_number-bag-requires-in-Sum t c =
@@ -163,7 +164,7 @@ draft_number-returns-in_err-rows-in-Sum t c =
     rw (p.1, p.2)
     (λ n o tr at.
     let k = c.args.catalogue.now in
-    let rs = in_scope c.args.scope.now in
+    let rs = stacked c.args.scope.now in
     let i = of_sum at.form c.in-Sum.low c.in-Sum.high c.in-Sum.of c.in-Sum.value (c.in-Sum.ensures.value no_entry) c.in-Sum.ensures.stands in
     ap (number_typed n k rs) i.is ∙ sum_stops n k rs i.a c.in-Sum.low c.in-Sum.high i.b _ (c.in_err-rows-in-Sum.ensures (n + 1) (o + 1) i.a i.first))
 
@@ -179,7 +180,7 @@ draft_number-returns-in_err-term-in-Sum t c =
     rw (p.1, p.2)
     (λ n o tr at.
     let k = c.args.catalogue.now in
-    let rs = in_scope c.args.scope.now in
+    let rs = stacked c.args.scope.now in
     let i = of_sum at.form c.in-Sum.low c.in-Sum.high c.in-Sum.of c.in-Sum.value (c.in-Sum.ensures.value no_entry) c.in-Sum.ensures.stands in
     ap (number_typed n k rs) i.is ∙ sum_stops_later n k rs i.a c.in-Sum.low c.in-Sum.high i.b _ _ (c.in_ok-rows-in-Sum.ensures (n + 1) (o + 1) i.a i.first).0 (c.in_err-term-in-Sum.ensures (past (n + 1) i.a) (o + 1 + size i.a) i.b i.second))
 
@@ -206,14 +207,14 @@ draft_number-returns-in_ok-term-in-Sum t c =
     let x = c.in_ok-rows-in-Sum.ensures (n + 1) (o + 1) i.a i.first in
     let y = c.in_ok-term-in-Sum.ensures (past (n + 1) i.a) (o + 1 + size i.a) i.b i.second in
     let line = ap (λ (y : Entry). y.line) c.entry_at-line.ensures ∙ (opens tr c.args.entries.now c.args.at n o at.form.lined).line in
-    let type = λ (p q : ℤ). unbound (in_scope v) (totals w.shape.limit p q) (multiplied (max (nat_abs p) (nat_abs q)) w.inputs) in
+    let type = λ (p q : ℤ). unbound (stacked v) (totals w.shape.limit p q) (multiplied (max (nat_abs p) (nat_abs q)) w.inputs) in
     let value = c.of_sum.ensures v ∙ ap₂ (λ (p q : ℤ). settle (scope_rule c.entry_at-line.result.line (le_z p q)) (type p q)) (to_z-of_z w64 lo (search rules)) (to_z-of_z w64 hi (search rules)) ∙ ap (λ (l : ℕ). settle (scope_rule l (le_z lo hi)) (type lo hi)) line in
     let ys = λ (cs : List Range). term_notes (past (n + 1) i.a) cs i.b in
     let here : o + 1 + size i.a ≡ o + 1 + length (bag_notes (n + 1) k i.a) = ap (λ (j : ℕ). o + 1 + j) (sym (bag_count i.a (n + 1) k)) in
     let noted_now = noted_both c.args.notes.now (o + 1) (o + 1 + size i.a) (bag_notes (n + 1) k i.a) (ys (columns_of w.shape)) _ _ x.1 y.1 here (omega (arith, i.first.room, c.requires.places)) ∙ ap (λ (cs : List Range). noted_at c.args.notes.now (o + 1) (bag_notes (n + 1) k i.a ++ ys cs)) (sym (ap columns_in x.0)) in
     let notes = bag_notes (n + 1) k i.a ++ ys (columns_in (bag_typed (n + 1) k i.a)) in
     subst (λ (u : NumberTree). NumberDrafted k v n o u c.args.notes.now c.of_sum.result c.term.new.notes) (sym i.is)
-    (subst (λ (s : Result NumberType Refusal). Drafted (number_shown (spare v)) (number_rule n) (λ _. Unit {0}) s c.args.notes.now (o + 1) notes c.of_sum.result c.term.new.notes) (sym (sum_goes n k (in_scope v) i.a lo hi i.b _ _ x.0 y.0))
+    (subst (λ (s : Result NumberType Refusal). Drafted (number_shown (spare v)) (number_rule n) (λ _. Unit {0}) s c.args.notes.now (o + 1) notes c.of_sum.result c.term.new.notes) (sym (sum_goes n k (stacked v) i.a lo hi i.b _ _ x.0 y.0))
     (drafted (number_shown (spare v)) (number_rule n) n (le_z lo hi) (type lo hi) c.args.notes.now (o + 1) notes c.of_sum.result c.term.new.notes value noted_now))
 
 pub draft_number-two_numbers-requires : goal.draft_number-two_numbers-requires
@@ -230,7 +231,7 @@ draft_number-returns-in_err-x-in-Add t c =
     rw (p.1, p.2)
     (λ n o tr at.
     let k = c.args.catalogue.now in
-    let rs = in_scope c.args.scope.now in
+    let rs = stacked c.args.scope.now in
     let i = of_add at.form c.in-Add.left c.in-Add.right (c.in-Add.ensures.value no_entry) c.in-Add.ensures.stands in
     let s = small_two add (spare c.args.scope.now) _ i.a i.b i.is at.small at.shallow (λ h. h) refl in
     let first = part c.args.scope.now i.first s.first s.first_depth in
@@ -256,7 +257,7 @@ draft_number-returns-in_ok-x-in-Add t c =
     let first = part c.args.scope.now i.first s.first s.first_depth in
     let second = part c.args.scope.now i.second s.second s.second_depth in
     let e = c.in_ok-x-in-Add.ensures (n + 1) (o + 1) i.a i.b first second in
-    subst (λ (u : NumberTree). NumberDrafted k v n o u c.args.notes.now (Ok c.plus.result) c.two_numbers.new.notes) (sym i.is) (pair_goes n k (in_scope v) sums i.a i.b _ (number_shown (spare v) c.plus.result) c.plus.ensures e.0, e.1, tt)
+    subst (λ (u : NumberTree). NumberDrafted k v n o u c.args.notes.now (Ok c.plus.result) c.two_numbers.new.notes) (sym i.is) (pair_goes n k (stacked v) sums i.a i.b _ (number_shown (spare v) c.plus.result) c.plus.ensures e.0, e.1, tt)
 
 pub draft_number-two_numbers-requires-in-Sub : goal.draft_number-two_numbers-requires-in-Sub
 draft_number-two_numbers-requires-in-Sub t c =
@@ -272,7 +273,7 @@ draft_number-returns-in_err-x-in-Sub t c =
     rw (p.1, p.2)
     (λ n o tr at.
     let k = c.args.catalogue.now in
-    let rs = in_scope c.args.scope.now in
+    let rs = stacked c.args.scope.now in
     let i = of_sub at.form c.in-Sub.left c.in-Sub.right (c.in-Sub.ensures.value no_entry) c.in-Sub.ensures.stands in
     let s = small_two sub (spare c.args.scope.now) _ i.a i.b i.is at.small at.shallow (λ h. h) refl in
     let first = part c.args.scope.now i.first s.first s.first_depth in
@@ -298,7 +299,7 @@ draft_number-returns-in_ok-x-in-Sub t c =
     let first = part c.args.scope.now i.first s.first s.first_depth in
     let second = part c.args.scope.now i.second s.second s.second_depth in
     let e = c.in_ok-x-in-Sub.ensures (n + 1) (o + 1) i.a i.b first second in
-    subst (λ (u : NumberTree). NumberDrafted k v n o u c.args.notes.now (Ok c.minus.result) c.two_numbers-in-Sub.new.notes) (sym i.is) (pair_goes n k (in_scope v) differences i.a i.b _ (number_shown (spare v) c.minus.result) c.minus.ensures e.0, e.1, tt)
+    subst (λ (u : NumberTree). NumberDrafted k v n o u c.args.notes.now (Ok c.minus.result) c.two_numbers-in-Sub.new.notes) (sym i.is) (pair_goes n k (stacked v) differences i.a i.b _ (number_shown (spare v) c.minus.result) c.minus.ensures e.0, e.1, tt)
 
 pub draft_number-two_numbers-requires-in-Least : goal.draft_number-two_numbers-requires-in-Least
 draft_number-two_numbers-requires-in-Least t c =
@@ -314,7 +315,7 @@ draft_number-returns-in_err-x-in-Least t c =
     rw (p.1, p.2)
     (λ n o tr at.
     let k = c.args.catalogue.now in
-    let rs = in_scope c.args.scope.now in
+    let rs = stacked c.args.scope.now in
     let i = of_least at.form c.in-Least.left c.in-Least.right (c.in-Least.ensures.value no_entry) c.in-Least.ensures.stands in
     let s = small_two least (spare c.args.scope.now) _ i.a i.b i.is at.small at.shallow (λ h. h) refl in
     let first = part c.args.scope.now i.first s.first s.first_depth in
@@ -340,7 +341,7 @@ draft_number-returns-in_ok-x-in-Least t c =
     let first = part c.args.scope.now i.first s.first s.first_depth in
     let second = part c.args.scope.now i.second s.second s.second_depth in
     let e = c.in_ok-x-in-Least.ensures (n + 1) (o + 1) i.a i.b first second in
-    subst (λ (u : NumberTree). NumberDrafted k v n o u c.args.notes.now (Ok c.least.result) c.two_numbers-in-Least.new.notes) (sym i.is) (pair_goes n k (in_scope v) lesser i.a i.b _ (number_shown (spare v) c.least.result) c.least.ensures e.0, e.1, tt)
+    subst (λ (u : NumberTree). NumberDrafted k v n o u c.args.notes.now (Ok c.least.result) c.two_numbers-in-Least.new.notes) (sym i.is) (pair_goes n k (stacked v) lesser i.a i.b _ (number_shown (spare v) c.least.result) c.least.ensures e.0, e.1, tt)
 
 pub draft_number-two_numbers-requires-in-Most : goal.draft_number-two_numbers-requires-in-Most
 draft_number-two_numbers-requires-in-Most t c =
@@ -356,7 +357,7 @@ draft_number-returns-in_err-x-in-Most t c =
     rw (p.1, p.2)
     (λ n o tr at.
     let k = c.args.catalogue.now in
-    let rs = in_scope c.args.scope.now in
+    let rs = stacked c.args.scope.now in
     let i = of_most at.form c.in-Most.left c.in-Most.right (c.in-Most.ensures.value no_entry) c.in-Most.ensures.stands in
     let s = small_two most (spare c.args.scope.now) _ i.a i.b i.is at.small at.shallow (λ h. h) refl in
     let first = part c.args.scope.now i.first s.first s.first_depth in
@@ -382,7 +383,7 @@ draft_number-returns-in_ok-x-in-Most t c =
     let first = part c.args.scope.now i.first s.first s.first_depth in
     let second = part c.args.scope.now i.second s.second s.second_depth in
     let e = c.in_ok-x-in-Most.ensures (n + 1) (o + 1) i.a i.b first second in
-    subst (λ (u : NumberTree). NumberDrafted k v n o u c.args.notes.now (Ok c.most.result) c.two_numbers-in-Most.new.notes) (sym i.is) (pair_goes n k (in_scope v) greater i.a i.b _ (number_shown (spare v) c.most.result) c.most.ensures e.0, e.1, tt)
+    subst (λ (u : NumberTree). NumberDrafted k v n o u c.args.notes.now (Ok c.most.result) c.two_numbers-in-Most.new.notes) (sym i.is) (pair_goes n k (stacked v) greater i.a i.b _ (number_shown (spare v) c.most.result) c.most.ensures e.0, e.1, tt)
 
 pub draft_number-number-requires : goal.draft_number-number-requires
 draft_number-number-requires t c =
@@ -398,7 +399,7 @@ draft_number-returns-in_err-x-in-Scale t c =
     rw (p.1, p.2)
     (λ n o tr at.
     let k = c.args.catalogue.now in
-    let rs = in_scope c.args.scope.now in
+    let rs = stacked c.args.scope.now in
     let i = of_scale at.form c.in-Scale.factor c.in-Scale.inner (c.in-Scale.ensures.value no_entry) c.in-Scale.ensures.stands in
     let small = subst (NumbersWithin literal_bound) i.is at.small in
     let deep = subst (λ (u : NumberTree). depth u ≤ spare c.args.scope.now) i.is at.shallow in
@@ -426,7 +427,7 @@ draft_number-returns-in_ok-x-in-Scale t c =
     let first = part c.args.scope.now i.first (small_one i.a small.1) (omega arith) in
     let e = c.in_ok-x-in-Scale.ensures (n + 1) (o + 1) i.a first in
     let x = number_shown (spare v) c.in_ok-x-in-Scale.x in
-    subst (λ (u : NumberTree). NumberDrafted k v n o u c.args.notes.now (Ok c.scaled.result) c.number.new.notes) (sym i.is) (scale_goes n k (in_scope v) i.a c.in-Scale.factor x (number_shown (spare v) c.scaled.result) (c.scaled.ensures ∙ ap (λ (z : ℤ). multiple z x) (to_z-of_z w64 c.in-Scale.factor (search rules))) e.0, e.1, tt)
+    subst (λ (u : NumberTree). NumberDrafted k v n o u c.args.notes.now (Ok c.scaled.result) c.number.new.notes) (sym i.is) (scale_goes n k (stacked v) i.a c.in-Scale.factor x (number_shown (spare v) c.scaled.result) (c.scaled.ensures ∙ ap (λ (z : ℤ). multiple z x) (to_z-of_z w64 c.in-Scale.factor (search rules))) e.0, e.1, tt)
 
 pub draft_number-number-requires-in-Clip : goal.draft_number-number-requires-in-Clip
 draft_number-number-requires-in-Clip t c =
@@ -442,7 +443,7 @@ draft_number-returns-in_err-x-in-Clip t c =
     rw (p.1, p.2)
     (λ n o tr at.
     let k = c.args.catalogue.now in
-    let rs = in_scope c.args.scope.now in
+    let rs = stacked c.args.scope.now in
     let i = of_clip at.form c.in-Clip.low c.in-Clip.high c.in-Clip.inner (c.in-Clip.ensures.value no_entry) c.in-Clip.ensures.stands in
     let small = subst (NumbersWithin literal_bound) i.is at.small in
     let deep = subst (λ (u : NumberTree). depth u ≤ spare c.args.scope.now) i.is at.shallow in
@@ -465,8 +466,8 @@ draft_number-returns-in_ok-x-in-Clip t c =
     let line = ap (λ (y : Entry). y.line) c.entry_at-line.ensures ∙ (opens tr c.args.entries.now c.args.at n o at.form.lined).line in
     let value = c.clipped.ensures (spare v) ∙ ap₂ (λ (p q : ℤ). settle (scope_rule c.entry_at-line.result.line (le_z p q)) (cut p q x)) (to_z-of_z w64 lo (search rules)) (to_z-of_z w64 hi (search rules)) ∙ ap (λ (l : ℕ). settle (scope_rule l (le_z lo hi)) (cut lo hi x)) line in
     subst (λ (u : NumberTree). NumberDrafted k v n o u c.args.notes.now c.clipped.result c.number-in-Clip.new.notes) (sym i.is)
-    (subst (λ (s : Result NumberType Refusal). Drafted (number_shown (spare v)) (number_rule n) (λ _. Unit {0}) s c.args.notes.now (o + 1) (number_notes (n + 1) k (in_scope v) i.a) c.clipped.result c.number-in-Clip.new.notes) (sym (clip_goes n k (in_scope v) i.a lo hi x e.0))
-    (drafted (number_shown (spare v)) (number_rule n) n (le_z lo hi) (cut lo hi x) c.args.notes.now (o + 1) (number_notes (n + 1) k (in_scope v) i.a) c.clipped.result c.number-in-Clip.new.notes value e.1))
+    (subst (λ (s : Result NumberType Refusal). Drafted (number_shown (spare v)) (number_rule n) (λ _. Unit {0}) s c.args.notes.now (o + 1) (number_notes (n + 1) k (stacked v) i.a) c.clipped.result c.number-in-Clip.new.notes) (sym (clip_goes n k (stacked v) i.a lo hi x e.0))
+    (drafted (number_shown (spare v)) (number_rule n) n (le_z lo hi) (cut lo hi x) c.args.notes.now (o + 1) (number_notes (n + 1) k (stacked v) i.a) c.clipped.result c.number-in-Clip.new.notes value e.1))
 
 pub draft_number-number-requires-in-Let : goal.draft_number-number-requires-in-Let
 draft_number-number-requires-in-Let t c =
@@ -481,7 +482,7 @@ draft_number-returns-in_err-x-in-Let t c =
     rw (p.1, p.2)
     (λ n o tr at.
     let k = c.args.catalogue.now in
-    let rs = in_scope c.args.scope.now in
+    let rs = stacked c.args.scope.now in
     let i = of_let at.form c.in-Let.bound c.in-Let.body (c.in-Let.ensures.value no_entry) c.in-Let.ensures.stands in
     let s = small_two let_in (spare c.args.scope.now) _ i.a i.b i.is at.small at.shallow (λ h. h) refl in
     let first = part c.args.scope.now i.first s.first s.first_depth in
@@ -507,7 +508,7 @@ draft_number-returns-in_err-y-in-Let t c =
     rw (p.1, p.2)
     (λ n o tr at.
     let k = c.args.catalogue.now in
-    let rs = in_scope c.args.scope.now in
+    let rs = stacked c.args.scope.now in
     let i = of_let at.form c.in-Let.bound c.in-Let.body (c.in-Let.ensures.value no_entry) c.in-Let.ensures.stands in
     let s = small_two let_in (spare c.args.scope.now) _ i.a i.b i.is at.small at.shallow (λ h. h) refl in
     let first = part c.args.scope.now i.first s.first s.first_depth in
@@ -529,7 +530,7 @@ draft_number-returns-in_ok-y-in-Let t c =
     λ n o tr at.
     let k = c.args.catalogue.now in
     let v = c.args.scope.now in
-    let rs = in_scope v in
+    let rs = stacked v in
     let i = of_let at.form c.in-Let.bound c.in-Let.body (c.in-Let.ensures.value no_entry) c.in-Let.ensures.stands in
     let s = small_two let_in (spare c.args.scope.now) _ i.a i.b i.is at.small at.shallow (λ h. h) refl in
     let first = part c.args.scope.now i.first s.first s.first_depth in
@@ -540,7 +541,7 @@ draft_number-returns-in_ok-y-in-Let t c =
     let typed = (ap (λ (l : List Range). number_typed (past (n + 1) i.a) k l i.b) (sym c.with-inner.ensures.ranges) ∙ y.0 ∙ ap (λ (j : ℕ). Ok (number_shown j c.in_ok-y-in-Let.y)) inner) in
     let here : o + 1 + size i.a ≡ o + 1 + length (number_notes (n + 1) k rs i.a) = ap (λ (j : ℕ). o + 1 + j) (sym (number_count i.a (n + 1) k rs)) in
     let ys = λ (l : List Range). number_notes (past (n + 1) i.a) k l i.b in
-    let scope : in_scope c.with-inner.result ≡ range_in (number_typed (n + 1) k rs i.a) ∷ rs = c.with-inner.ensures.ranges ∙ ap (λ (r : Result NumberType Refusal). range_in r ∷ rs) (sym x.0) in
-    let noted_now = noted_both c.args.notes.now (o + 1) (o + 1 + size i.a) (number_notes (n + 1) k rs i.a) (ys (in_scope c.with-inner.result)) _ _ x.1 y.1 here (omega (arith, i.first.room, c.requires.places)) ∙ ap (λ (l : List Range). noted_at c.args.notes.now (o + 1) (number_notes (n + 1) k rs i.a ++ ys l)) scope in
+    let scope : stacked c.with-inner.result ≡ range_in (number_typed (n + 1) k rs i.a) ∷ rs = c.with-inner.ensures.ranges ∙ ap (λ (r : Result NumberType Refusal). range_in r ∷ rs) (sym x.0) in
+    let noted_now = noted_both c.args.notes.now (o + 1) (o + 1 + size i.a) (number_notes (n + 1) k rs i.a) (ys (stacked c.with-inner.result)) _ _ x.1 y.1 here (omega (arith, i.first.room, c.requires.places)) ∙ ap (λ (l : List Range). noted_at c.args.notes.now (o + 1) (number_notes (n + 1) k rs i.a ++ ys l)) scope in
     subst (λ (u : NumberTree). NumberDrafted k v n o u c.args.notes.now (Ok c.named.result) c.number-in-Let-2.new.notes) (sym i.is)
     (let_goes n k rs i.a i.b (number_shown (spare v) c.in_ok-x-in-Let.x) (number_shown (spare v - 1) c.in_ok-y-in-Let.y) (number_shown (spare v) c.named.result) c.named.ensures x.0 typed, noted_now, tt)
