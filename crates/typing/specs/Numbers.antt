@@ -2,7 +2,7 @@
 use Rattle.std.specs.Prelude.{ℕ, ◌+◌, ◌≤◌, List, ◌++◌, drop, Ok, Result}
 use Rattle.refusals.specs.declared.Refusal.{Refusal}
 use Rattle.sources.specs.declared.shapes.Range.{Range}
-use Rattle.trees.specs.Size.{NumbersWithin, depth, literal_bound}
+use Rattle.trees.specs.Size.{max_depth, NumbersWithin, depth, literal_bound}
 use Rattle.forms.specs.declared.form.Entry.{Entry}
 use Rattle.forms.specs.Lined.{past}
 use Rattle.forms.specs.Table.{NumberTree}

@@ -13,7 +13,7 @@ use Rattle.rules.specs.Amounts.{none, one_at, times as multiplied}
 use Rattle.rules.specs.Catalogue.{setting_range}
 use Rattle.rules.specs.Ranges.{differences, greater, lesser, point, sums, totals}
 use Rattle.rules.specs.Typing.{NumberType, bag_typed, cut, index, multiple, number_rule, number_typed, place, scope_rule, settle, unbound, variable}
-use Rattle.trees.specs.Size.{NumbersWithin, depth, literal_bound, size}
+use Rattle.trees.specs.Size.{max_depth, NumbersWithin, depth, literal_bound, size}
 use Rattle.trees.specs.Tree.Tree.{num, setting, var, add, sub, least, most, let_in}
 use Rattle.stacks.specs.Stack.{spare, stacked}
 use Rattle.types.specs.Shown.{NumberGood, number_shown}
@@ -513,7 +513,7 @@ draft_number-returns-in_err-y-in-Let t c =
     let s = small_two let_in (spare c.args.scope.now) _ i.a i.b i.is at.small at.shallow (λ h. h) refl in
     let first = part c.args.scope.now i.first s.first s.first_depth in
     let second = inner_part c.args.scope.now c.with-inner.result i.second s.second s.second_depth c.with-inner.ensures.spare in
-    ap (number_typed n k rs) i.is ∙ let_stops_later n k rs i.a i.b _ _ (c.in_ok-x-in-Let.ensures (n + 1) (o + 1) i.a first).0 (ap (λ (l : List Range). number_typed (past (n + 1) i.a) k l i.b) (sym c.with-inner.ensures.ranges) ∙ c.in_err-y-in-Let.ensures (past (n + 1) i.a) (o + 1 + size i.a) i.b second))
+    ap (number_typed n k rs) i.is ∙ let_stops_later n k rs i.a i.b _ _ (c.in_ok-x-in-Let.ensures (n + 1) (o + 1) i.a first).0 (ap (λ (l : List Range). number_typed (past (n + 1) i.a) k l i.b) (sym c.with-inner.ensures.items) ∙ c.in_err-y-in-Let.ensures (past (n + 1) i.a) (o + 1 + size i.a) i.b second))
 
 pub draft_number-named-requires : goal.draft_number-named-requires
 draft_number-named-requires t c =
@@ -538,10 +538,10 @@ draft_number-returns-in_ok-y-in-Let t c =
     let inner : spare c.with-inner.result ≡ spare v - 1 = omega (arith, c.with-inner.ensures.spare) in
     let x = c.in_ok-x-in-Let.ensures (n + 1) (o + 1) i.a first in
     let y = c.in_ok-y-in-Let.ensures (past (n + 1) i.a) (o + 1 + size i.a) i.b second in
-    let typed = (ap (λ (l : List Range). number_typed (past (n + 1) i.a) k l i.b) (sym c.with-inner.ensures.ranges) ∙ y.0 ∙ ap (λ (j : ℕ). Ok (number_shown j c.in_ok-y-in-Let.y)) inner) in
+    let typed = (ap (λ (l : List Range). number_typed (past (n + 1) i.a) k l i.b) (sym c.with-inner.ensures.items) ∙ y.0 ∙ ap (λ (j : ℕ). Ok (number_shown j c.in_ok-y-in-Let.y)) inner) in
     let here : o + 1 + size i.a ≡ o + 1 + length (number_notes (n + 1) k rs i.a) = ap (λ (j : ℕ). o + 1 + j) (sym (number_count i.a (n + 1) k rs)) in
     let ys = λ (l : List Range). number_notes (past (n + 1) i.a) k l i.b in
-    let scope : stacked c.with-inner.result ≡ range_in (number_typed (n + 1) k rs i.a) ∷ rs = c.with-inner.ensures.ranges ∙ ap (λ (r : Result NumberType Refusal). range_in r ∷ rs) (sym x.0) in
+    let scope : stacked c.with-inner.result ≡ range_in (number_typed (n + 1) k rs i.a) ∷ rs = c.with-inner.ensures.items ∙ ap (λ (r : Result NumberType Refusal). range_in r ∷ rs) (sym x.0) in
     let noted_now = noted_both c.args.notes.now (o + 1) (o + 1 + size i.a) (number_notes (n + 1) k rs i.a) (ys (stacked c.with-inner.result)) _ _ x.1 y.1 here (omega (arith, i.first.room, c.requires.places)) ∙ ap (λ (l : List Range). noted_at c.args.notes.now (o + 1) (number_notes (n + 1) k rs i.a ++ ys l)) scope in
     subst (λ (u : NumberTree). NumberDrafted k v n o u c.args.notes.now (Ok c.named.result) c.number-in-Let-2.new.notes) (sym i.is)
     (let_goes n k rs i.a i.b (number_shown (spare v) c.in_ok-x-in-Let.x) (number_shown (spare v - 1) c.in_ok-y-in-Let.y) (number_shown (spare v) c.named.result) c.named.ensures x.0 typed, noted_now, tt)
