@@ -5,7 +5,8 @@ ghost use Rattle.rules.specs.Amounts.{at_most};
 ghost use Rattle.rules.specs.Catalogue.{faulty_input};
 ghost use Rattle.rules.specs.Ranges.{most_rows};
 ghost use Rattle.rules.specs.Typing.{bag_rule, index, place, pooled, replaced, scope_rule, sensitivity_bound, settle, source_type};
-ghost use Rattle.sources.specs.Shapes.{columns_of, max_rows, max_width};
+ghost use Rattle.sources.specs.Indexed.{listed};
+ghost use Rattle.sources.specs.Shapes.{column, columns_of, max_rows, max_width};
 ghost use Rattle.sources.specs.Unions.{hulls};
 ghost use Rattle.types.specs.Faults.{told};
 ghost use Rattle.types.specs.Shown.{BagGood, bag_shown};
@@ -75,6 +76,14 @@ impl TypedBag {
         })
     }
 
+    // The ranges of its columns, lent.
+    pub fn columns(&self) -> &[Range]
+        requires { self.now.shape.width ≤ max_width }
+        ensures { result.now ≡ columns_of self.now.shape }
+    {
+        front(&self.shape.columns, self.shape.width)
+    }
+
     fn whole(catalogue: &Catalogue, source: usize) -> TypedBag
         requires { source < 2 }
         ensures value { bag_shown result ≡ source_type catalogue.now source }
@@ -85,6 +94,14 @@ impl TypedBag {
             inputs: Amounts::one_at(source),
         }
     }
+}
+
+// The first `width` of the columns.
+fn front(columns: &[Range; MAX_WIDTH], width: usize) -> &[Range]
+    requires { width ≤ max_width }
+    ensures { result.now ≡ listed (column columns.now) width }
+{
+    &columns[..width]
 }
 
 fn width(shape: &Shape) -> usize

@@ -1,6 +1,6 @@
 -- A number's parts stand before it; it is drafted before it is settled.
 use Rattle.std.proofs.Common.{◌+◌, ◌*◌, max}
-use Rattle.typing.proofs.numbers.+typed_numbers.Given as goal
+use Rattle.typing.proofs.basis.Basis.+typed_numbers.Given as goal
 
 abbrev pub decreases-draft_number : goal.decreases-draft_number
 decreases-draft_number l = 3 * l.at

@@ -1,6 +1,6 @@
 -- A form's parts stand before it; a form is drafted before it is settled.
 use Rattle.std.proofs.Common.{◌+◌, ◌*◌, max}
-use Rattle.typing.proofs.terms.+typed_terms.Given as goal
+use Rattle.typing.proofs.terms.TermBasis.+typed_terms.Given as goal
 
 abbrev pub decreases-condition : goal.decreases-condition
 decreases-condition l = 3 * l.at + 1

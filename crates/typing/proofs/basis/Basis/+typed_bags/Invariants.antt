@@ -1,6 +1,6 @@
 -- A bag's parts stand before it; it is drafted before it is noted.
 use Rattle.std.proofs.Common.{◌+◌, ◌*◌}
-use Rattle.typing.proofs.bags.+typed_bags.Given as goal
+use Rattle.typing.proofs.basis.Basis.+typed_bags.Given as goal
 
 abbrev pub decreases-bag : goal.decreases-bag
 decreases-bag l = 2 * l.at + 1
