@@ -1,45 +1,24 @@
--- Places that are blanked one after the other.
-use Rattle.std.proofs.Common.{◌≡◌, ℕ, ◌+◌, ◌-◌, ◌<◌, ◌≤◌, List, ◌++◌, length, take, drop, set, replicate, sym, ap, ◌∙◌, ap₂, append-nil, arith}
-use lib.Seq.{paste}
-use Rattle.std.proofs.lemmas.List.Edits.{fill_from_more, paste_all, paste_none}
-use Rattle.std.proofs.lemmas.Simd.{length-replicate}
-use Rattle.std.proofs.lemmas.List.{drop_all, take_at}
+-- Notes from the first place on, and blank places behind them.
+use Rattle.std.proofs.Common.{◌≡◌, ℕ, ◌+◌, List, ◌++◌, length, take, drop, replicate, sym, ap, ◌∙◌, ap₂, append-nil, append_assoc, arith, length-drop}
+use borrow.Rule.Slice.PartMut.{mid_of, put_mid}
+use Rattle.std.proofs.lemmas.List.{drop_all, length-take-le, replicate-append-replicate, take_at}
 use Rattle.typing.specs.Notes.{blank_note, noted_at}
 use Rattle.typing.specs.declared.note.Note.{Note}
 
--- blank from first up to i
-abbrev pub blanked : List Note → ℕ → ℕ → List Note
-blanked d first i = paste d first (replicate (i - first) blank_note) (i - first)
+-- all places from k on are written
+pub put_behind : (xs ys : List Note) (k n : ℕ) → k + n ≡ length xs → put_mid k n xs ys ≡ take k xs ++ ys
+put_behind xs ys k n e = ap (λ (zs : List Note). take k xs ++ (ys ++ zs)) (drop_all n (drop k xs) (omega (arith, length-drop k xs))) ∙ ap (λ (zs : List Note). take k xs ++ zs) (append-nil ys)
 
-module _ (d : List Note) (first : ℕ) where
-  abbrev some : ℕ → List Note
-  some n = paste d first (replicate n blank_note) n
+pub length_behind : (xs : List Note) (k n : ℕ) → k + n ≡ length xs → length (mid_of k n xs) ≡ n
+length_behind xs k n e = length-take-le n (drop k xs) (omega (arith, length-drop k xs))
 
-  pub blank_none : d ≡ blanked d first first
-  blank_none = let none : 0 ≡ first - first = omega arith in paste_none d first (replicate 0 blank_note) ∙ ap some none
+pub noted_first : (before ns now_noted : List Note) (k : ℕ) → now_noted ≡ noted_at before 0 ns → k ≡ length ns → take k now_noted ≡ ns
+noted_first before ns now_noted k noted at = ap (take k) noted ∙ take_at ns (drop (0 + length ns) before) k (sym at)
 
-  pub blank_more : (l : List Note) (i : ℕ) → l ≡ blanked d first i → first ≤ i → i < length d → set l i blank_note ≡ blanked d first (i + 1)
-  blank_more l i e h k =
-      let n = i - first in
-      let at : i ≡ first + n = omega arith in
-      let next : n + 1 ≡ (i + 1) - first = omega arith in
-      ap (λ (x : List Note). set x i blank_note) e ∙ ap (λ (j : ℕ). set (some n) j blank_note) at ∙ fill_from_more d first n blank_note (omega arith) ∙ ap some next
+-- blank places behind blank places
+pub blank_joined : (n m k : ℕ) → n + m ≡ k → replicate n blank_note ++ replicate m blank_note ≡ replicate k blank_note
+blank_joined n m k e = replicate-append-replicate n m blank_note ∙ ap (λ (i : ℕ). replicate i blank_note) e
 
-  pub blank_all : (l : List Note) (i : ℕ) → l ≡ blanked d first i → first ≤ length d → i ≡ length d → l ≡ take first d ++ replicate (length d - first) blank_note
-  blank_all l i e h k =
-      let n = length d - first in
-      let same : i - first ≡ n = omega arith in
-      let end : length d ≤ first + n = omega arith in
-      e ∙ ap some same ∙ paste_all d first (replicate n blank_note) n (sym (length-replicate n blank_note)) ∙ ap (λ (x : List Note). take first d ++ (replicate n blank_note ++ x)) (drop_all (first + n) d end) ∙ ap (λ (x : List Note). take first d ++ x) (append-nil (replicate n blank_note))
-
--- notes from the first place on, and blanks behind them
-pub noted_first : (before ns now_noted last : List Note) (k n : ℕ) → now_noted ≡ noted_at before 0 ns → length now_noted ≡ length before → k ≡ length ns → k ≡ n → last ≡ take k now_noted ++ replicate (length now_noted - k) blank_note → last ≡ ns ++ replicate (length before - n) blank_note
-noted_first before ns now_noted last k n noted long at same e =
-    let front : take k now_noted ≡ ns = ap (take k) noted ∙ take_at ns (drop (0 + length ns) before) k (sym at) in
-    e ∙ ap₂ (λ (x : List Note) (i : ℕ). x ++ replicate i blank_note) front (ap₂ ◌-◌ long same)
-
--- all places blank
-pub all_blank : (before now_noted last : List Note) → length now_noted ≡ length before → last ≡ take 0 now_noted ++ replicate (length now_noted - 0) blank_note → last ≡ replicate (length before) blank_note
-all_blank before now_noted last long e =
-    let whole : length now_noted - 0 ≡ length before = omega arith in
-    e ∙ ap (λ (i : ℕ). replicate i blank_note) whole
+-- blank places behind notes that have blank places behind them
+pub blank_behind : (ns first behind : List Note) (n m k : ℕ) → first ≡ ns ++ replicate n blank_note → behind ≡ replicate m blank_note → n + m ≡ k → first ++ behind ≡ ns ++ replicate k blank_note
+blank_behind ns first behind n m k e f sum = ap₂ (λ (a b : List Note). a ++ b) e f ∙ append_assoc ns (replicate n blank_note) (replicate m blank_note) ∙ ap (λ (zs : List Note). ns ++ zs) (blank_joined n m k sum)

@@ -5,6 +5,7 @@ use Rattle.trees.specs.Written.{written}
 use Rattle.forms.specs.declared.form.Entry.{Entry}
 use Rattle.forms.specs.Table.{NumberTree}
 use Rattle.reading.specs.Law.{Holds, HoldsLined, OpensLines, ReadsTrees}
+use Rattle.sources.specs.declared.shapes.Range.{Range}
 use Rattle.stacks.specs.Stack.{spare}
 use Rattle.stacks.specs.declared.stack.Stack.{Stack}
 use Rattle.typing.specs.Numbers.{NumberAt}

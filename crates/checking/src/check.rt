@@ -1,19 +1,16 @@
 // The call that checks a text.
-ghost use Rattle.std.specs.Prelude.{◌≡◌, ◌-◌, ◌≤◌, ◌++◌, length, take, replicate, Some, None, Ok, Err, Option};
+ghost use Rattle.std.specs.Prelude.{◌≡◌, length, replicate};
 ghost use Rattle.forms.specs.Limits.{room};
-ghost use Rattle.checking.specs.Check.{AcceptsExactly, Checks, call_fault};
+ghost use Rattle.checking.specs.Check.{AcceptsExactly, Checks};
 ghost use Rattle.checking.specs.Fills.{ChecksAnew};
-ghost use Rattle.checking.specs.Faults.{fault_in};
 ghost use Rattle.typing.specs.Notes.{blank_note};
 
+use crate::call::Call;
 use crate::fault::CheckFault;
 use crate::query::Query;
 use forms::limits::ROOM;
 use rules::catalogue::Catalogue;
 use typing::note::Note;
-
-// How many bytes a text has at most.
-pub const MAX_TEXT: usize = 4096;
 
 // Checks the text against the catalogue. An accepted text fills the query, and each of its forms is noted in order of
 // opening lines; the other places are blank. A refused text empties the query and blanks all notes, but where there are
@@ -38,57 +35,38 @@ fn check_or_clear(
 ) -> Result<(), CheckFault>
     ensures { Checks catalogue.now text.now notes.old query.old result notes.new query.new }
 {
-    if notes.len() < ROOM {
+    let Some((places, behind)) = notes.split_first_chunk_mut::<ROOM>() else {
         return Err(CheckFault::FewNotes);
-    }
-    match check_anew(text, catalogue, notes, query) {
+    };
+    blank(behind);
+    match check_anew(text, catalogue, places, query) {
         Ok(()) => Ok(()),
         Err(fault) => {
-            blank_from(notes, 0);
+            blank(places);
             query.clear();
             Err(fault)
         }
     }
 }
 
-// With places enough. What it leaves where it refuses is of no use.
+// What it leaves where it refuses is of no use.
 fn check_anew(
     text: &[u8],
     catalogue: &Catalogue,
-    notes: &mut [Note],
+    notes: &mut [Note; ROOM],
     query: &mut Query,
 ) -> Result<(), CheckFault>
-    requires { room ≤ length notes.old }
-    ensures { ChecksAnew catalogue.now text.now (length notes.old) result notes.new query.new }
+    ensures { ChecksAnew catalogue.now text.now room result notes.new query.new }
 {
-    check_call(text, catalogue)?;
-    query.fill(text, catalogue, notes)?;
-    blank_from(notes, query.entries().len());
+    let call = Call::new(text, catalogue)?;
+    query.fill(&call, notes)?;
+    let forms = query.entries().len();
+    blank(&mut notes[forms..]);
     Ok(())
 }
 
-// The catalogue, and the size of the text.
-fn check_call(text: &[u8], catalogue: &Catalogue) -> Result<(), CheckFault>
-    ensures { fault_in result ≡ call_fault catalogue.now text.now }
+fn blank(notes: &mut [Note])
+    ensures { notes.new ≡ replicate (length notes.old) blank_note }
 {
-    if let Some(input) = catalogue.faulty_input() {
-        return Err(CheckFault::Catalogue { input });
-    }
-    if text.len() > MAX_TEXT {
-        return Err(CheckFault::TooLong);
-    }
-    if text.is_empty() {
-        return Err(CheckFault::NoText);
-    }
-    Ok(())
-}
-
-// Every place from one on is blank.
-fn blank_from(notes: &mut [Note], first: usize)
-    requires { first ≤ length notes.old }
-    ensures { notes.new ≡ take first notes.old ++ replicate (length notes.old - first) blank_note }
-{
-    for i in first..notes.len() {
-        notes[i] = Note::BLANK;
-    }
+    notes.fill(Note::BLANK);
 }

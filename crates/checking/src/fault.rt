@@ -1,7 +1,6 @@
 // Why a text is not accepted: the call, the catalogue, the text's size, or what reading or the rules refuse.
 ghost use Rattle.std.specs.Prelude.{◌≡◌};
-ghost use Rattle.refusals.specs.Rules.{refusal};
-ghost use Rattle.checking.specs.Faults.{check_refusal, check_stage};
+ghost use Rattle.checking.specs.Faults.{check_refusal, check_stage, of_reading};
 ghost use Rattle.checking.specs.declared.fault.CheckFault.TheVariants.{Form, Rule};
 
 use reading::fault::{FormFault, Stage};
@@ -31,6 +30,18 @@ pub enum CheckStage {
     Rules,
 }
 
+impl From<Stage> for CheckStage {
+    ghost from_gives = { λ s r. r ≡ of_reading s };
+
+    fn from(stage: Stage) -> CheckStage {
+        match stage {
+            Stage::Lines => CheckStage::Lines,
+            Stage::Forms => CheckStage::Forms,
+        }
+    }
+}
+
+// By hand, since a derived `From` does not say which fault it makes.
 impl From<FormFault> for CheckFault {
     ghost from_gives = { λ e r. r ≡ Form e };
 
@@ -52,10 +63,10 @@ impl Fault for CheckFault {
 
     fn refusal(&self) -> Refusal {
         match *self {
-            CheckFault::FewNotes => of_call(1, 0),
-            CheckFault::Catalogue { input } => of_call(2, input),
-            CheckFault::TooLong => of_call(3, 0),
-            CheckFault::NoText => of_call(4, 0),
+            CheckFault::FewNotes => Refusal::new(1, 0, 0),
+            CheckFault::Catalogue { input } => Refusal::new(2, input, 0),
+            CheckFault::TooLong => Refusal::new(3, 0, 0),
+            CheckFault::NoText => Refusal::new(4, 0, 0),
             CheckFault::Form(fault) => fault.refusal(),
             CheckFault::Rule(fault) => fault.refusal(),
         }
@@ -67,22 +78,9 @@ impl CheckFault {
         ensures { result ≡ check_stage self.now }
     {
         match self {
-            CheckFault::Form(fault) => match fault.stage() {
-                Stage::Lines => CheckStage::Lines,
-                Stage::Forms => CheckStage::Forms,
-            },
+            CheckFault::Form(fault) => CheckStage::from(fault.stage()),
             CheckFault::Rule(_) => CheckStage::Rules,
             _ => CheckStage::Call,
         }
-    }
-}
-
-fn of_call(number: u32, first: usize) -> Refusal
-    ensures { result ≡ refusal number first 0 }
-{
-    Refusal {
-        number,
-        first,
-        second: 0,
     }
 }

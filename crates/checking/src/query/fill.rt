@@ -1,18 +1,17 @@
 // How a query is emptied, and filled with what a text spells.
-ghost use Rattle.std.specs.Prelude.{◌≡◌, ◌<◌, ◌≤◌, length, None};
+ghost use Rattle.std.specs.Prelude.{◌≡◌};
 ghost use Rattle.forms.specs.Held.{held};
-ghost use Rattle.forms.specs.Limits.{room};
-ghost use Rattle.rules.specs.Catalogue.{faulty_input};
 ghost use Rattle.checking.specs.Fills.{Fills};
 ghost use Rattle.checking.specs.Query.{Emptied};
 ghost use Rattle.checking.specs.Reading.{ReadsTyped};
 
 use super::{NO_CATALOGUE, Query};
+use crate::call::Call;
 use crate::fault::CheckFault;
+use forms::limits::ROOM;
 use forms::table::Table;
 use reading::text::read;
 use rules::amounts::Amounts;
-use rules::catalogue::Catalogue;
 use sources::Range;
 use types::number::TypedNumber;
 use types::variables::Variables;
@@ -31,21 +30,13 @@ impl Query {
     }
 
     // Fills the query with what the text spells, and notes its forms from the first place on. A refused text leaves the query empty.
-    pub(crate) fn fill(
-        &mut self,
-        text: &[u8],
-        catalogue: &Catalogue,
-        notes: &mut [Note],
-    ) -> Result<(), CheckFault>
-        requires sound { faulty_input catalogue.now ≡ None }
-        requires some { 0 < length text.now }
-        requires places { room ≤ length notes.old }
-        ensures { Fills catalogue.now text.now notes.old result notes.new self.new }
+    pub(crate) fn fill(&mut self, call: &Call, notes: &mut [Note; ROOM]) -> Result<(), CheckFault>
+        ensures { Fills call.now.catalogue.now call.now.text.now notes.old result notes.new self.new }
     {
         self.clear();
-        match read_typed(text, catalogue, &mut self.table, notes) {
+        match read_typed(call, &mut self.table, notes) {
             Ok(typed) => {
-                self.catalogue = *catalogue;
+                self.catalogue = *call.catalogue;
                 self.range = typed.range;
                 self.sensitivities = typed.inputs;
                 Ok(())
@@ -60,21 +51,17 @@ impl Query {
 
 // The table holds the text's forms, and the outermost is typed.
 fn read_typed(
-    text: &[u8],
-    catalogue: &Catalogue,
+    call: &Call,
     table: &mut Table,
-    notes: &mut [Note],
+    notes: &mut [Note; ROOM],
 ) -> Result<TypedNumber, CheckFault>
-    requires sound { faulty_input catalogue.now ≡ None }
-    requires some { 0 < length text.now }
-    requires places { room ≤ length notes.old }
-    ensures { ReadsTyped catalogue.now text.now notes.old result (held table.new) notes.new }
+    ensures { ReadsTyped call.now.catalogue.now call.now.text.now notes.old result (held table.new) notes.new }
 {
-    read(text, table)?;
+    read(call.text, table)?;
     let entries = table.entries();
     let typed = number(
         entries,
-        catalogue,
+        call.catalogue,
         entries.len() - 1,
         &Variables::new(Range::ZERO),
         notes,
