@@ -32,7 +32,6 @@ number-requires g c =
     let (t, h) = c.requires.typed in
     let two : length plant.settings ≡ 2 = search rules in
     record {
-      few = c.requires.few;
       spare = omega (arith, c.new.ensures.spare, c.requires.few);
       ready = (sources_of p, t, ready es p t h (c.rules_keep_values_in_range.ensures.keep h.catalogue p h.fits) c.totals_of-totals.result plant.settings (stacked c.new.result) (two_settings plant.settings two) c.new.ensures.items c.totals_of-totals.ensures);
     }
