@@ -2,6 +2,7 @@
 #![tactic(auto)]
 
 ghost use Rattle.std.specs.Prelude.{◌≡◌};
+ghost use Rattle.refusals.specs.Rules.{refusal};
 ghost use Rattle.refusals.specs.declared.Refusal.{Refusal};
 
 // A number that names the reason, and two places, each 0 where there is none.
@@ -10,6 +11,18 @@ pub struct Refusal {
     pub number: u32,
     pub first: usize,
     pub second: usize,
+}
+
+impl Refusal {
+    pub fn new(number: u32, first: usize, second: usize) -> Refusal
+        ensures { result ≡ refusal number first second }
+    {
+        Refusal {
+            number,
+            first,
+            second,
+        }
+    }
 }
 
 // A reason to say no. Each layer has an enum of its own.
