@@ -20,7 +20,7 @@ module _ (p : ℕ → Bool) (n : ℕ) where
   pub each_more : each p (n + 1) ≡ (p n && each p n)
   each_more = rw add-one
 
-  pub each_decides : Decides (each p n) ((k : ℕ) → k < n → p k ≡ true)
+  each_decides : Decides (each p n) ((k : ℕ) → k < n → p k ≡ true)
   each_decides = Decides-below_and p (λ k. p k ≡ true) (each p) (λ k. (λ h. h, λ h. h)) refl (λ _. refl) n
 
   pub each_at : each p n ≡ true → (k : ℕ) → k < n → p k ≡ true
