@@ -1,44 +1,24 @@
 -- How often a row stands in a bag, and sums over the rows by their counts.
-use Rattle.std.proofs.Common.{◌≡◌, ℕ, ◌+◌, ◌*◌, ◌≤◌, min, Bool, true, false, cond, not, List, [], ◌∷◌, ◌++◌, map, length, ℤ, sum_by, filter, sym, refl, ap, ◌∙◌, subst, mul-le-mul_right, add-mul, one-mul, zero-mul, arith}
-use borrow.Author.Differences.{le_out, le-true, true_is_le}
-use lib.Signed.{le_z, ≤ℤ_refl}
-use Rattle.std.proofs.lemmas.Int.{ints}
+use Rattle.std.proofs.Common.{◌≡◌, ℕ, ◌+◌, ◌*◌, ◌≤◌, min, Bool, true, false, cond, not, List, [], ◌∷◌, ◌++◌, map, length, sum_by, filter, sym, refl, ap, ◌∙◌, mul-le-mul_right, add-mul, one-mul, zero-mul, arith}
 use Rattle.std.proofs.lemmas.List.Sorted.{sum_by-IsPermutation}
-use Rattle.std.proofs.lemmas.List.Sums.{sum_by-append, sum_by-cons}
-use Rattle.std.proofs.lemmas.Bool.{and_from, and_parts, both_ways}
+use Rattle.std.proofs.lemmas.List.Sums.{sum_by-append, sum_by-cons, sum_by-le-sum_by}
+use Rattle.std.proofs.lemmas.Bool.{both_ways}
+use Rattle.std.proofs.lemmas.Bool.Decides.{Decides-int_eq}
+use Rattle.std.proofs.lemmas.Cmp.{int_eq_equiv, lists_equiv}
+use Rattle.std.specs.Cmp.Lexicographic.{pointwise_decides}
 use Rattle.std.specs.List.{AllByRecursion}
 use Rattle.std.specs.List.Sorted.{IsPermutation}
 use Rattle.sources.specs.Source.{Row}
-use Rattle.bags.specs.Distance.{different, equal, same, times}
-
-equal_is : (x y : ℤ) → equal x y ≡ true → x ≡ y
-equal_is x y e =
-    let p = and_parts (le_z x y) (le_z y x) e in
-    omega (arith, ints, le-true x y p.0, le-true y x p.1)
-
-equal_itself : (x : ℤ) → equal x x ≡ true
-equal_itself x = let e = sym (true_is_le x x (le_out x x (≤ℤ_refl x))) in and_from (le_z x x) (le_z x x) e e
+use Rattle.bags.specs.Distance.{different, same, times}
 
 pub same_is : (x y : Row) → same x y ≡ true → x ≡ y
-same_is [] [] e = refl
-same_is [] (y ∷ ys) e = absurd (both_ways false refl e)
-same_is (x ∷ xs) [] e = absurd (both_ways false refl e)
-same_is (x ∷ xs) (y ∷ ys) e =
-    let p = and_parts (equal x y) (same xs ys) e in
-    λ i. equal_is x y p.0 i ∷ same_is xs ys p.1 i
+same_is x y = (pointwise_decides Decides-int_eq x y).0
 
 pub same_itself : (x : Row) → same x x ≡ true
-same_itself [] = refl
-same_itself (x ∷ xs) = and_from (equal x x) (same xs xs) (equal_itself x) (same_itself xs)
+same_itself = (lists_equiv int_eq_equiv).refl
 
 same_flip : (x y : Row) → same x y ≡ same y x
-same_flip x y = go (same x y) (same y x) refl refl
-  where
-    go : (a b : Bool) → same x y ≡ a → same y x ≡ b → a ≡ b
-    go true true p q = refl
-    go false false p q = refl
-    go true false p q = absurd (both_ways (same y x) q (subst (λ z. same z x ≡ true) (same_is x y p) (same_itself x)))
-    go false true p q = absurd (both_ways (same x y) p (subst (λ z. same z y ≡ true) (same_is y x q) (same_itself y)))
+same_flip = (lists_equiv int_eq_equiv).symm
 
 -- ---- sums
 
@@ -49,10 +29,6 @@ sum_by_none (z ∷ u) = sum_by-cons (λ _. 0) z u ∙ omega (arith, sum_by_none 
 pub sum_by_plus : (f g : Row → ℕ) (u : List Row) → sum_by (λ z. f z + g z) u ≡ sum_by f u + sum_by g u
 sum_by_plus f g [] = refl
 sum_by_plus f g (z ∷ u) = sum_by-cons (λ z. f z + g z) z u ∙ omega (arith, sum_by_plus f g u, sum_by-cons f z u, sum_by-cons g z u)
-
-sum_by_mono : (f g : Row → ℕ) (u : List Row) → ((z : Row) → f z ≤ g z) → sum_by f u ≤ sum_by g u
-sum_by_mono f g [] h = omega arith
-sum_by_mono f g (z ∷ u) h = omega (arith, h z, sum_by_mono f g u h, sum_by-cons f z u, sum_by-cons g z u)
 
 pub sum_by_one : (u : List Row) → sum_by (λ _. 1) u ≡ length u
 sum_by_one [] = refl
@@ -164,7 +140,7 @@ sum_grows g a b h =
     let u = different (a ++ b) in
     let once_a : Once u a = λ z k. once z (omega (arith, times_append z a b)) in
     let once_b : Once u b = λ z k. once z (omega (arith, times_append z a b)) in
-    omega (arith, weighted g u a once_a, weighted g u b once_b, sum_by_mono (λ z. times z a * g z) (λ z. times z b * g z) u (λ z. mul-le-mul_right (g z) (h z)))
+    omega (arith, weighted g u a once_a, weighted g u b once_b, sum_by-le-sum_by (λ z. times z a * g z) (λ z. times z b * g z) u (λ z. mul-le-mul_right (g z) (h z)))
   where
     once : Once (different (a ++ b)) (a ++ b)
     once z k = times_different z (a ++ b) ∙ omega (arith, k)

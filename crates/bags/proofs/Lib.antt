@@ -3,5 +3,4 @@ pub mod Laws
 pub mod Lost
 pub mod Merges
 pub mod Padding
-pub mod Runs
 pub mod Shares

@@ -1,69 +1,89 @@
 -- Two sorted bags, walked together: what the first rows of both tell of what they share.
-use Rattle.std.proofs.Common.{◌≡◌, ℕ, ◌+◌, ◌<◌, Bool, true, false, List, [], ◌∷◌, length, get_or, drop, Ordering, Less, Equal, Greater, sym, refl, ap, ◌∙◌, true≢false, arith}
+use Rattle.std.proofs.Common.{◌≡◌, ℕ, suc, ◌+◌, ◌-◌, ◌<◌, ◌≤◌, Bool, true, false, ◌⊎◌, ⊎_elim, List, [], ◌∷◌, length, get_or, take, drop, Ordering, Less, Equal, Greater, sym, refl, ap, ◌∙◌, arith}
 use Rattle.std.proofs.ByRecursion.{All-from_get_or}
-use Rattle.std.proofs.lemmas.List.{drop_more, get_or-drop, length-drop}
+use Rattle.std.proofs.lemmas.Cmp.{int_cmp_total, lists_total, tied_itself}
+use Rattle.std.proofs.lemmas.List.{take_all}
 use Rattle.std.proofs.lemmas.List.Sorted.{searchable_from_sorted}
-use Rattle.std.specs.Cmp.{int_cmp_total, signed_Decides}
-use Rattle.std.specs.Cmp.Lexicographic.{slice_cmp}
-use Rattle.std.proofs.lemmas.Cmp.{lists_total}
-use Rattle.std.specs.Ordering.{is_eq, is_lt, ordering_index, ordering_reverse, ordering_then, int_cmp}
+use Rattle.std.specs.Cmp.Lexicographic.{lists_ties, slice_cmp}
+use Rattle.std.specs.List.Sorted.{IsSorted}
+use Rattle.std.specs.Ordering.{int_cmp, is_eq, ordering_index, ordering_reverse}
 use Rattle.sources.specs.Source.{Row}
 use Rattle.bags.specs.Distance.{same, shared, times}
-use Rattle.bags.specs.Order.{Sorted}
 use Rattle.bags.proofs.Counts.{same_is, times_absent}
-use Rattle.bags.proofs.Shares.{shared_both, shared_flip, shared_other}
+use Rattle.bags.proofs.Shares.{shared_both, shared_flip, shared_none, shared_other}
 
-abbrev pub ranked : Row → Row → Ordering
-ranked = (slice_cmp int_cmp)
+abbrev ranked : Row → Row → Ordering
+ranked = slice_cmp int_cmp
 
-both_equal : (a b : Ordering) → ordering_then a b ≡ Equal → (is_eq a ≡ true) × (b ≡ Equal)
-both_equal Less b e = let z : is_eq Less ≡ true = ap is_eq e in absurd (true≢false (sym z))
-both_equal Equal b e = (refl, e)
-both_equal Greater b e = let z : is_eq Greater ≡ true = ap is_eq e in absurd (true≢false (sym z))
+ranked_flip : (x y : Row) → ranked x y ≡ ordering_reverse (ranked y x)
+ranked_flip = (lists_total int_cmp_total).antisymm
 
 -- rows that the order does not tell apart are one row
 ranked_equal : (x y : Row) → ranked x y ≡ Equal → x ≡ y
-ranked_equal [] [] e = refl
-ranked_equal [] (y ∷ ys) e = absurd (true≢false (sym (ap is_eq e)))
-ranked_equal (x ∷ xs) [] e = absurd (true≢false (sym (ap is_eq e)))
-ranked_equal (x ∷ xs) (y ∷ ys) e =
-    let p = both_equal (int_cmp x y) (ranked xs ys) e in
-    λ i. (signed_Decides x y).0 p.0 i ∷ ranked_equal xs ys p.1 i
+ranked_equal x y e = same_is x y (lists_ties int_cmp (λ a b. refl) x y ∙ ap is_eq e)
 
-ranked_itself : (x : Row) → ranked x x ≡ Equal
-ranked_itself x = go (ranked x x) refl ((lists_total int_cmp_total).antisymm x x)
+sorted_rest : (x : Row) (xs : List Row) → IsSorted ranked (x ∷ xs) → IsSorted ranked xs
+sorted_rest x xs sorted k d low high = let e : suc k + 1 ≡ suc (k + 1) = omega arith in rw e at (sorted (suc k) d (omega arith) (omega arith))
+
+-- a row before the first of a sorted bag stands nowhere in it
+absent : (x y : Row) (ys : List Row) → IsSorted ranked (y ∷ ys) → ranked x y ≡ Less → times x (y ∷ ys) ≡ 0
+absent x y ys sorted less = times_absent x (y ∷ ys) (All-from_get_or (λ z. same x z ≡ false) (y ∷ ys) [] (λ k h. other k h (same x (get_or (y ∷ ys) k [])) refl))
   where
-    go : (r : Ordering) → ranked x x ≡ r → ranked x x ≡ ordering_reverse (ranked x x) → ranked x x ≡ Equal
-    go Less e h = let z : Less ≡ Greater = sym e ∙ h ∙ ap ordering_reverse e in absurd (true≢false (ap is_lt z))
-    go Equal e h = e
-    go Greater e h = let z : Less ≡ Greater = sym (sym e ∙ h ∙ ap ordering_reverse e) in absurd (true≢false (ap is_lt z))
-
--- a row before that at j stands nowhere from j on
-absent : (x : Row) (ys : List Row) (j : ℕ) → Sorted ys → ranked x (get_or ys j []) ≡ Less → times x (drop j ys) ≡ 0
-absent x ys j sorted less = times_absent x (drop j ys) (All-from_get_or (λ y. same x y ≡ false) (drop j ys) [] (λ k h. other k h (same x (get_or (drop j ys) k [])) refl))
-  where
-    above : ranked (get_or ys j []) x ≡ Greater
-    above = (lists_total int_cmp_total).antisymm (get_or ys j []) x ∙ ap ordering_reverse less
-
-    other : (k : ℕ) → k < length (drop j ys) → (b : Bool) → same x (get_or (drop j ys) k []) ≡ b → b ≡ false
+    other : (k : ℕ) → k < length (y ∷ ys) → (b : Bool) → same x (get_or (y ∷ ys) k []) ≡ b → b ≡ false
     other k h false e = refl
     other k h true e =
-        let here : get_or ys (j + k) [] ≡ x = sym (same_is x (get_or (drop j ys) k []) e ∙ get_or-drop j ys k []) in
-        let up = searchable_from_sorted (lists_total int_cmp_total) (λ r. r) ys x sorted j (j + k) [] (omega arith) (omega (arith, length-drop j ys)) in
-        let low : ordering_index (ranked (get_or ys j []) x) ≡ 2 = ap ordering_index above in
-        let high : ordering_index (ranked (get_or ys (j + k) []) x) ≡ 1 = ap ordering_index (ap (λ r. ranked r x) here ∙ ranked_itself x) in
+        let here : x ≡ get_or (y ∷ ys) k [] = same_is x (get_or (y ∷ ys) k []) e in
+        let up = searchable_from_sorted (lists_total int_cmp_total) (λ r. r) (y ∷ ys) x sorted 0 k [] (omega arith) h in
+        let low : ordering_index (ranked y x) ≡ 2 = ap ordering_index (ranked_flip y x ∙ ap ordering_reverse less) in
+        let high : ordering_index (ranked (get_or (y ∷ ys) k []) x) ≡ 1 = ap ordering_index (ap (λ r. ranked r x) (sym here) ∙ tied_itself (lists_total int_cmp_total) x) in
         absurd (omega arith)
 
-module _ (xs ys : List Row) (i j : ℕ) (in_xs : i < length xs) (in_ys : j < length ys) where
-  pub less : Sorted ys → ranked (get_or xs i []) (get_or ys j []) ≡ Less → shared (drop i xs) (drop j ys) ≡ shared (drop (i + 1) xs) (drop j ys)
-  less sorted e = ap (λ l. shared l (drop j ys)) (drop_more xs i [] in_xs) ∙ shared_other (get_or xs i []) (drop (i + 1) xs) (drop j ys) (absent (get_or xs i []) ys j sorted e)
+less : (x y : Row) (xs ys : List Row) → IsSorted ranked (y ∷ ys) → Less ≡ ranked x y → shared (x ∷ xs) (y ∷ ys) ≡ shared xs (y ∷ ys)
+less x y xs ys sorted e = shared_other x xs (y ∷ ys) (absent x y ys sorted (sym e))
 
-  pub equals : ranked (get_or xs i []) (get_or ys j []) ≡ Equal → shared (drop i xs) (drop j ys) ≡ 1 + shared (drop (i + 1) xs) (drop (j + 1) ys)
-  equals e =
-      let x = get_or xs i [] in
-      ap (λ l. shared l (drop j ys)) (drop_more xs i [] in_xs)
-      ∙ ap (λ l. shared (x ∷ drop (i + 1) xs) l) (drop_more ys j [] in_ys ∙ ap (λ y. y ∷ drop (j + 1) ys) (sym (ranked_equal x (get_or ys j []) e)))
-      ∙ shared_both x (drop (i + 1) xs) (drop (j + 1) ys)
+greater : (x y : Row) (xs ys : List Row) → IsSorted ranked (x ∷ xs) → Greater ≡ ranked x y → shared (x ∷ xs) (y ∷ ys) ≡ shared (x ∷ xs) ys
+greater x y xs ys sorted e = shared_flip (x ∷ xs) (y ∷ ys) ∙ less y x ys xs sorted (sym (ranked_flip y x ∙ ap ordering_reverse (sym e))) ∙ shared_flip ys (x ∷ xs)
 
-pub greater : (xs ys : List Row) (i j : ℕ) → i < length xs → j < length ys → Sorted xs → ranked (get_or xs i []) (get_or ys j []) ≡ Greater → shared (drop i xs) (drop j ys) ≡ shared (drop i xs) (drop (j + 1) ys)
-greater xs ys i j in_xs in_ys sorted e = shared_flip (drop i xs) (drop j ys) ∙ less ys xs j i in_ys in_xs sorted ((lists_total int_cmp_total).antisymm (get_or ys j []) (get_or xs i []) ∙ ap ordering_reverse e) ∙ shared_flip (drop (j + 1) ys) (drop i xs)
+equals : (x y : Row) (xs ys : List Row) → Equal ≡ ranked x y → shared (x ∷ xs) (y ∷ ys) ≡ shared xs ys + 1
+equals x y xs ys e = ap (λ z. shared (x ∷ xs) (z ∷ ys)) (sym (ranked_equal x y (sym e))) ∙ shared_both x xs ys ∙ omega arith
+
+-- what is left of two sorted bags, and how many rows were counted: with those that what is left shares, they are all that the bags share
+pub record Left (first second : List Row) (count : ℕ) (xs ys : List Row) : Type 0 where
+  pub first_sorted : IsSorted ranked xs
+  pub second_sorted : IsSorted ranked ys
+  pub few : count + length xs ≤ length first
+  pub all : count + shared xs ys ≡ shared first second
+
+-- what the pattern `[x, rest @ ..]` leaves
+abbrev rest : List Row → List Row
+rest xs = take (length xs - 1) (drop 1 xs)
+
+rest_is : (x : Row) (xs : List Row) → rest (x ∷ xs) ≡ xs
+rest_is x xs = take_all (suc (length xs) - 1) xs (omega arith)
+
+module _ {first second : List Row} {count : ℕ} where
+  pub less_walked : (xs ys : List Row) → Left first second count xs ys → 1 ≤ length xs → 1 ≤ length ys → Less ≡ ranked (get_or xs 0 []) (get_or ys 0 []) → Left first second count (rest xs) ys
+  less_walked [] ys left h k e = absurd (omega arith)
+  less_walked (x ∷ xs) [] left h k e = absurd (omega arith)
+  less_walked (x ∷ xs) (y ∷ ys) left h k e =
+      let p = left.few in
+      rw (rest_is x xs) (record { first_sorted = sorted_rest x xs left.first_sorted; second_sorted = left.second_sorted; few = omega arith; all = omega (arith, left.all, less x y xs ys left.second_sorted e) })
+
+  pub greater_walked : (xs ys : List Row) → Left first second count xs ys → 1 ≤ length xs → 1 ≤ length ys → Greater ≡ ranked (get_or xs 0 []) (get_or ys 0 []) → Left first second count xs (rest ys)
+  greater_walked [] ys left h k e = absurd (omega arith)
+  greater_walked (x ∷ xs) [] left h k e = absurd (omega arith)
+  greater_walked (x ∷ xs) (y ∷ ys) left h k e =
+      rw (rest_is y ys) (record { first_sorted = left.first_sorted; second_sorted = sorted_rest y ys left.second_sorted; few = left.few; all = omega (arith, left.all, greater x y xs ys left.first_sorted e) })
+
+  pub equal_walked : (xs ys : List Row) → Left first second count xs ys → 1 ≤ length xs → 1 ≤ length ys → Equal ≡ ranked (get_or xs 0 []) (get_or ys 0 []) → Left first second (count + 1) (rest xs) (rest ys)
+  equal_walked [] ys left h k e = absurd (omega arith)
+  equal_walked (x ∷ xs) [] left h k e = absurd (omega arith)
+  equal_walked (x ∷ xs) (y ∷ ys) left h k e =
+      let p = left.few in
+      rw (rest_is x xs, rest_is y ys) (record { first_sorted = sorted_rest x xs left.first_sorted; second_sorted = sorted_rest y ys left.second_sorted; few = omega arith; all = omega (arith, left.all, equals x y xs ys e) })
+
+  -- where one of them is used up, all are counted
+  pub used_up : (xs ys : List Row) → Left first second count xs ys → (length xs < 1) ⊎ (length ys < 1) → count ≡ shared first second
+  used_up [] ys left h = omega (arith, left.all, shared_none ys)
+  used_up (x ∷ xs) [] left h = omega (arith, left.all, shared_flip (x ∷ xs) [], shared_none (x ∷ xs))
+  used_up (x ∷ xs) (y ∷ ys) left h = absurd (⊎_elim (λ k. omega arith) (λ k. omega arith) h)

@@ -1,11 +1,12 @@
 -- What two bags share: each bag is what it shares and what the other lacks of it.
 use Rattle.std.proofs.Common.{◌≡◌, ℕ, ◌+◌, ◌-◌, ◌≤◌, min, Bool, true, false, List, [], ◌∷◌, ◌++◌, map, length, sum_by, sym, refl, ap, ◌∙◌, mul-one, arith}
 use lib.ListN.{length-map}
+use Rattle.std.proofs.lemmas.List.Sorted.{length_permutation}
 use Rattle.std.specs.List.{AllByRecursion}
+use Rattle.std.specs.List.Sorted.{IsPermutation}
 use Rattle.sources.specs.Source.{Row}
 use Rattle.bags.specs.Distance.{Pairs, different, missing, same, shared, times}
-use Rattle.bags.specs.Order.{SameBag}
-use Rattle.bags.proofs.Counts.{Once, same_is, sum_grows, sum_by_one, sum_by_plus, times_cons, times_other, weighted}
+use Rattle.bags.proofs.Counts.{Once, same_is, sum_by_one, sum_by_plus, times_cons, times_other, weighted}
 use Rattle.bags.proofs.Laws.{missing_alike, missing_steady}
 use Rattle.bags.proofs.Lost.{distance_is, first_once, missing_is, missing_over, second_once}
 
@@ -41,14 +42,8 @@ shared_pairs xs ys n e =
 pub shared_flip : (xs ys : List Row) → shared xs ys ≡ shared ys xs
 shared_flip xs ys = omega (arith, first_shared xs ys, second_shared ys xs)
 
-same_long : (xs ys : List Row) → SameBag xs ys → length ys ≡ length xs
-same_long xs ys h = omega (arith, sum_by_one xs, sum_by_one ys, sum_grows (λ _. 1) xs ys (λ z. omega (arith, h z)), sum_grows (λ _. 1) ys xs (λ z. omega (arith, h z)))
-
-pub shared_same : (xs ys us vs : List Row) → SameBag xs us → SameBag ys vs → shared us vs ≡ shared xs ys
-shared_same xs ys us vs p q =
-    let few = missing_alike xs ys us vs (λ z. omega (arith, p z, q z)) in
-    let many = missing_alike us vs xs ys (λ z. omega (arith, p z, q z)) in
-    omega (arith, first_shared xs ys, first_shared us vs, same_long xs us p)
+pub shared_same : (xs ys us vs : List Row) → IsPermutation xs us → IsPermutation ys vs → shared us vs ≡ shared xs ys
+shared_same xs ys us vs p q = omega (arith, first_shared xs ys, first_shared us vs, length_permutation xs us p, missing_steady.reordered xs ys us vs p q)
 
 -- ---- one row more
 

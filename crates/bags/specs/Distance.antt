@@ -1,17 +1,12 @@
 -- How far two bags of rows are apart. A bag is a list of rows whose order does not count.
-use Rattle.std.specs.Prelude.{◌≡◌, ℕ, ◌+◌, ◌-◌, ◌≤◌, min, Bool, true, false, not, ◌&&◌, List, [], ◌∷◌, ◌++◌, length, ℤ, sum_by, count_by, filter, int_le}
+use Rattle.std.specs.Prelude.{◌≡◌, ℕ, ◌+◌, ◌-◌, ◌≤◌, min, Bool, not, List, [], ◌∷◌, ◌++◌, length, sum_by, count_by, filter}
+use Rattle.std.specs.Cmp.Lexicographic.{pointwise}
+use Rattle.std.specs.Ordering.{int_eq}
 use Rattle.sources.specs.Source.{Row}
-
--- the same number: both are at most each other
-abbrev pub equal : ℤ → ℤ → Bool
-equal x y = int_le x y && int_le y x
 
 -- the same row: as many cells, and the same number in each
 abbrev pub same : Row → Row → Bool
-same [] [] = true
-same [] (y ∷ ys) = false
-same (x ∷ xs) [] = false
-same (x ∷ xs) (y ∷ ys) = equal x y && same xs ys
+same = pointwise int_eq
 
 -- how often a row stands in a bag
 unfoldable pub times : Row → List Row → ℕ

@@ -1,4 +1,3 @@
 pub mod Distance
 pub mod Laws
-pub mod Order
 pub mod Plain

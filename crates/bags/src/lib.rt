@@ -4,7 +4,6 @@
 mod distances;
 mod merging;
 mod plain;
-mod sorting;
 
 pub use distances::distance;
 
@@ -14,31 +13,27 @@ mod tests {
     use sources::{Log, Range, Shape, SourceFault};
     use std::test::Fail;
 
-    // How far two logs are apart, each with a width and bytes.
-    fn apart(first: (usize, &[u8]), second: (usize, &[u8])) -> Result<usize, SourceFault> {
+    // A log of at most 8 rows, where each register may have any value.
+    fn log(width: usize, bytes: &[u8]) -> Result<Log<'_>, SourceFault> {
         let columns = [Range {
             low: 0,
             high: 65535,
         }; 6];
-        let mut a = Log::new();
-        a.open(
-            first.1,
+        let mut log = Log::new();
+        log.open(
+            bytes,
             Shape {
-                width: first.0,
+                width,
                 limit: 8,
                 columns,
             },
         )?;
-        let mut b = Log::new();
-        b.open(
-            second.1,
-            Shape {
-                width: second.0,
-                limit: 8,
-                columns,
-            },
-        )?;
-        Ok(distance(&a, &b))
+        Ok(log)
+    }
+
+    // How far two logs are apart, each with a width and bytes.
+    fn apart(first: (usize, &[u8]), second: (usize, &[u8])) -> Result<usize, SourceFault> {
+        Ok(distance(&log(first.0, first.1)?, &log(second.0, second.1)?))
     }
 
     #[test]

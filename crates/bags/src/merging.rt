@@ -1,30 +1,29 @@
 // Two sorted bags of rows, walked together.
-ghost use Rattle.std.specs.Prelude.{◌≡◌};
+ghost use Rattle.std.specs.Cmp.Lexicographic.{slice_cmp};
+ghost use Rattle.std.specs.Ordering.{int_cmp};
+ghost use Rattle.std.specs.Prelude.{◌≡◌, IsSorted};
 ghost use Rattle.bags.specs.Distance.{shared};
-ghost use Rattle.bags.specs.Order.{Sorted};
 
 use crate::plain::Plain;
 use std::cmp::Ordering;
 
 // How many rows the two bags share, in one pass over both.
-pub fn shared_rows(xs: &[Plain], ys: &[Plain]) -> usize
-    requires first { Sorted xs.now }
-    requires second { Sorted ys.now }
+pub fn shared_rows(mut xs: &[Plain], mut ys: &[Plain]) -> usize
+    requires first { IsSorted (slice_cmp int_cmp) xs.now }
+    requires second { IsSorted (slice_cmp int_cmp) ys.now }
     ensures { result ≡ shared xs.now ys.now }
 {
-    let mut i = 0;
-    let mut j = 0;
-    let mut n = 0;
-    while i < xs.len() && j < ys.len() {
-        match xs[i].cmp(&ys[j]) {
-            Ordering::Less => i += 1,
-            Ordering::Greater => j += 1,
+    let mut count = 0;
+    while let ([x, xs_left @ ..], [y, ys_left @ ..]) = (xs, ys) {
+        match x.cmp(y) {
+            Ordering::Less => xs = xs_left,
+            Ordering::Greater => ys = ys_left,
             Ordering::Equal => {
-                i += 1;
-                j += 1;
-                n += 1;
+                xs = xs_left;
+                ys = ys_left;
+                count += 1;
             }
         }
     }
-    n
+    count
 }

@@ -3,7 +3,7 @@
 
 #[cfg(test)]
 mod tests {
-    use sources::{Line, Log, Ramp, Range, Shape, Source, SourceFault, Union};
+    use sources::{Line, Log, Ramp, Range, Shape, Source, SourceFault, Union, padded_row};
     use std::process::Abort;
     use std::test::Fail;
 
@@ -195,5 +195,40 @@ mod tests {
         };
         assert_eq!(rt; (wide.width(), wide.limit(), wide.count()), (2, 0, 0));
         assert_eq!(rt; (wide.low(1), wide.high(1), wide.cell(0, 0)), (3, 3, 0));
+    }
+
+    // A row in six cells, where it is there.
+    fn row_of<S: Source>(source: &S, row: usize) -> Option<[i64; 6]> {
+        if row < source.count() {
+            Some(padded_row(source, source.width(), row))
+        } else {
+            None
+        }
+    }
+
+    #[test]
+    fn rows_in_six_cells(rt: HostRuntime) {
+        let narrow = ramp(2, 3, 5, -2);
+        assert_eq!(rt; row_of(&narrow, 1), Some([3, 3, 0, 0, 0, 0]));
+        assert_eq!(rt; row_of(&narrow, 3), None);
+        assert_eq!(rt; row_of(&ramp(6, 1, 7, 0), 0), Some([7; 6]));
+    }
+
+    #[test]
+    fn faults_in_words(rt: HostRuntime) -> Result<(), Fail> {
+        for (fault, text) in [
+            (SourceFault::Shape, "its shape is faulty"),
+            (
+                SourceFault::Rows,
+                "its bytes are no whole rows, or too many",
+            ),
+            (
+                SourceFault::Cell { row: 1, column: 2 },
+                "the cell at this row and column is out of range",
+            ),
+        ] {
+            assert_eq!(rt; fault.to_string(rt.alloc())?.as_str(), text);
+        }
+        Ok(())
     }
 }

@@ -1,3 +1,6 @@
+mod Cells
+mod Columns
 mod Joins
-mod Rows
+mod Padding
+mod Walks
 mod Words

@@ -6,3 +6,4 @@ pub mod Shapes
 pub mod Source
 pub mod Tabled
 pub mod Unions
+pub mod Widths

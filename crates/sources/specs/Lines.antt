@@ -1,11 +1,11 @@
 -- Ramps: a line of cells for each column, and when a ramp is refused.
-use Rattle.std.specs.Prelude.{◌≡◌, ℕ, ◌<◌, ◌≤◌, Bool, true, false, ◌&&◌, List, ℤ, pos, ◌+ℤ◌, ◌*ℤ◌, fold, Option, nat_le, slice_index_or}
+use Rattle.std.specs.Prelude.{ℕ, Bool, ◌&&◌, List, ℤ, pos, ◌+ℤ◌, ◌*ℤ◌, fold, Option, nat_le, slice_index_or}
 use Rattle.std.specs.Int.{int_max, int_min}
 use Rattle.refusals.specs.Rules.{refusal, unless}
 use Rattle.refusals.specs.declared.Refusal.{Refusal}
 use Rattle.sources.specs.Indexed.{each, listed}
-use Rattle.sources.specs.Shapes.{range, near, sized, max_rows, max_width}
-use Rattle.sources.specs.Source.{Meaning, cell_of}
+use Rattle.sources.specs.Shapes.{range, near, sized}
+use Rattle.sources.specs.Source.{Meaning}
 use Rattle.sources.specs.Tabled.{tabled}
 use Rattle.sources.specs.declared.ramps.Line.{Line}
 use Rattle.sources.specs.declared.shapes.Range.{Range}
@@ -24,11 +24,6 @@ range_of l n = range (fold int_min (cell_at l 0) (listed (cell_at l) n)) (fold i
 
 abbrev pub ramp_meaning : (width count : ℕ) → List Line → Meaning
 ramp_meaning width count ls = tabled width count count (λ j. range_of (line ls j) count) (λ i j. cell_at (line ls j) i)
-
--- row i and column j are there, so the line's cell is near enough to compute and is the cell; or the cell is missing
-abbrev pub Runs : Bool → (width count : ℕ) → List Line → (i j : ℕ) → Type 0
-Runs true width count ls i j = (j < max_width) × (near (line ls j).start ≡ true) × (near (line ls j).step ≡ true) × (i ≤ max_rows) × (cell_of (ramp_meaning width count ls) i j ≡ cell_at (line ls j) i)
-Runs false width count ls i j = cell_of (ramp_meaning width count ls) i j ≡ pos 0
 
 -- start, step and each of the n cells are what a column may hold
 abbrev pub line_sound : ℕ → Line → Bool

@@ -1,5 +1,5 @@
 -- What a source means, a shape and a list of rows, and the law that every source keeps.
-use Rattle.std.specs.Prelude.{◌≡◌, ℕ, ◌≤◌, true, List, [], ◌∷◌, length, ℤ, pos, slice_index_or}
+use Rattle.std.specs.Prelude.{◌≡◌, ℕ, ◌-◌, ◌≤◌, true, List, [], ◌∷◌, ◌++◌, length, replicate, ℤ, pos, slice_index_or}
 use Rattle.std.specs.List.{AllByRecursion}
 use Rattle.sources.specs.Shapes.{range, sound, within, column, max_width, max_rows}
 use Rattle.sources.specs.declared.shapes.Range.{Range}
@@ -27,6 +27,10 @@ count_of m = length m.rows
 -- the cell at row i and column j, 0 where either is missing
 abbrev pub cell_of : Meaning → ℕ → ℕ → ℤ
 cell_of m i j = slice_index_or (slice_index_or m.rows i []) j (pos 0)
+
+-- a row in code, which has a cell for each column that a source may have: 0 in those that the row lacks
+abbrev pub padded : Row → Row
+padded r = r ++ replicate (max_width - length r) (pos 0)
 
 -- as many cells as columns, each within its column's range
 abbrev pub Fits : List Range → Row → Type 0

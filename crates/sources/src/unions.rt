@@ -65,9 +65,9 @@ impl<A: Source, B: Source> Source for Union<A, B> {
     }
 
     fn cell(&self, row: usize, column: usize) -> i64 {
-        let Some(_) = self.joint_limit() else {
+        if self.joint_limit().is_none() {
             return 0;
-        };
+        }
         let count = self.first.count();
         if row < count {
             self.first.cell(row, column)

@@ -1,13 +1,12 @@
-use Rattle.std.proofs.Common.{sym, ◌∙◌}
-use Rattle.std.proofs.lemmas.Bool.{and_from, and_right}
-use Rattle.sources.specs.Indexed.{each_more, each_not}
-use Rattle.sources.specs.Lines.{line, line_sound}
+use Rattle.std.proofs.Common.{take, pos, ◌∙◌, rules, tests}
+use Rattle.std.proofs.lemmas.Iterator.{YieldsList-from_slice}
+use Rattle.std.proofs.lemmas.Iterator.Search.{all_from_yields_List}
+use Rattle.sources.specs.Lines.{line_sound}
+use Rattle.sources.proofs.Columns.{sized_all}
 use Rattle.sources.proofs.ramps.are_sound.Goals as goal
 
-pub returns-then-not-is_sound : goal.returns-then-not-is_sound
-returns-then-not-is_sound c =
-    let none = each_not (λ j. line_sound c.args.count (line c.args.lines.now j)) c.args.width c.loop-j.j c.loop-j-test.true (sym c.if-not-is_sound.ensures) in
-    sym (search (and_right, none))
-
-pub loop-j-preserved : goal.loop-j-preserved
-loop-j-preserved c = each_more (λ j. line_sound c.args.count (line c.args.lines.now j)) c.loop-j.j ∙ and_from _ _ (sym c.if-not-is_sound.ensures) c.loop-j.invariant
+pub returns-then-count-le-MAX_ROWS : goal.returns-then-count-le-MAX_ROWS
+returns-then-count-le-MAX_ROWS c =
+    let ls = c.args.lines.now in
+    all_from_yields_List (line_sound c.args.count) _ _ _ c.all.ensures.ran (YieldsList-from_slice (take c.args.width ls) (cc)) (λ x b q k. search (rules, tests))
+    ∙ sized_all ls (record { start = pos 0; step = pos 0 }) c.args.width (search rules) (line_sound c.args.count) c.args.count (search rules) (search rules) (search rules)
