@@ -102,7 +102,7 @@ negative_tells ds (Some (suc m)) z e f =
     let d = decimal_from_numeral ds (suc m) e in
     subst (λ (y : ℤ). (45 ∷ ds ≡ signed_decimal y) × (nat_abs y ≤ literal_bound)) same (ap (λ (xs : List ℕ). 45 ∷ xs) d.0, d.1)
 
-spelled_tells : (bs : List ℕ) (z : ℤ) → number_spelled bs ≡ Some z → (bs ≡ signed_decimal z) × (nat_abs z ≤ literal_bound)
+pub spelled_tells : (bs : List ℕ) (z : ℤ) → number_spelled bs ≡ Some z → (bs ≡ signed_decimal z) × (nat_abs z ≤ literal_bound)
 spelled_tells [] z e = let w : ◌≡◌ {A = ℕ} 0 1 = cc in absurd (omega arith)
 spelled_tells (c ∷ cs) z e = go (eqb c 45) refl e
   where
@@ -110,9 +110,9 @@ spelled_tells (c ∷ cs) z e = go (eqb c 45) refl e
     go true t f = let r = negative_tells cs (numeral cs) z refl f in (ap (λ x. x ∷ cs) (eqb-true c 45 t) ∙ r.0, r.1)
     go false t f = positive_tells (c ∷ cs) (numeral (c ∷ cs)) z refl f
 
-spelled_of : (z : ℤ) → nat_abs z ≤ literal_bound → number_spelled (signed_decimal z) ≡ Some z
+pub spelled_of : (z : ℤ) → nat_abs z ≤ literal_bound → number_spelled (signed_decimal z) ≡ Some z
 spelled_of (pos n) h = no_minus (decimal n) n (numeral_from_decimal n h)
 spelled_of (negsuc n) h = ap negative (numeral_from_decimal (suc n) h) ∙ negative_suc n
 
-pub spells : (bs : List ℕ) → Spells bs (number_spelled bs)
-spells bs z = (spelled_tells bs z, λ e h. ap number_spelled e ∙ spelled_of z h)
+pub spells : (bs : List ℕ) (r : Option ℤ) → r ≡ number_spelled bs → Spells bs r
+spells bs r f z = (λ e. spelled_tells bs z (sym f ∙ e), λ e h. f ∙ ap number_spelled e ∙ spelled_of z h)
