@@ -1,9 +1,10 @@
 -- A line in its written form is read.
-use Rattle.std.proofs.Common.{◌≡◌, ℕ, suc, ◌+◌, ◌%◌, ◌^◌, ◌<◌, ◌≤◌, Bool, true, false, not, ◌||◌, eqb, leb, List, [], ◌∷◌, ◌++◌, map, length, get_or, take, ℤ, pos, negsuc, nat_abs, Some, None, Ok, Err, decimal, Option, Result, sym, refl, ap, ◌∙◌, subst, ap₂, append-nil, add-one, one-add, arith}
+use Rattle.std.proofs.Common.{◌≡◌, ℕ, suc, ◌+◌, ◌%◌, ◌^◌, ◌<◌, ◌≤◌, Bool, true, false, not, eqb, leb, List, [], ◌∷◌, ◌++◌, map, length, get_or, take, ℤ, pos, negsuc, nat_abs, Some, None, Ok, Err, decimal, Option, Result, sym, refl, ap, ◌∙◌, subst, ap₂, append-nil, add-one, one-add, arith}
 use Rattle.std.proofs.lemmas.Fmt.{decimal_by_steps, decimal_nonempty}
 use Rattle.std.proofs.ByRecursion.{All-append, All-push, All-weaker}
 use Rattle.std.proofs.lemmas.List.{take_at, drop_at, length-map}
-use Rattle.std.proofs.lemmas.Bool.{cond-true, cond-false, eq-eqb, ne_eqb, le-leb, leb-true, and_from, or_from}
+use Rattle.std.proofs.lemmas.Bool.Decides.{nat_tests}
+use Rattle.std.proofs.lemmas.Bool.{cond-true, cond-false, eq-eqb, ne_eqb, leb-true, and_from}
 use Rattle.std.specs.List.{onto_first, prefix_len, AllByRecursion}
 use Rattle.std.specs.Int.{IsInRange}
 use Rattle.std.specs.Fmt.{signed_decimal}
@@ -14,7 +15,6 @@ use Rattle.trees.specs.Words.{entry}
 use Rattle.trees.specs.Written.{Line, line_bytes}
 use Rattle.trees.specs.Written.Line.{opening, leaf, closing}
 use Rattle.lines.proofs.Spelled.{spelled_of}
-use Rattle.lines.proofs.Splits.{formed}
 use Rattle.lines.proofs.Told.{spaced, line_up, two_numbers, written_by}
 use Rattle.lines.specs.declared.fault.LineFault.{LineFault}
 use Rattle.lines.specs.declared.fault.LineFault.TheVariants.{NotAHeading}
@@ -23,7 +23,7 @@ use Rattle.lines.specs.declared.token.Token.{Token}
 use Rattle.lines.specs.declared.token.Token.TheVariants.{Opening, Leaf, Closing}
 use Rattle.lines.specs.Heading.{pieces_in, paired, numbers_read, numbered, with_numbers, heading_read}
 use Rattle.lines.specs.Line.{after, token_heading, line_read, numbers_in, as_line, Counted, Proper, told_line, Tells}
-use Rattle.lines.specs.Split.{letter, inner, fields, filled, one_more, pieces_run, Found, ended, form_token, or_no_line}
+use Rattle.lines.specs.Split.{letter, inner, fields, filled, one_more, pieces_run, Found, ended, with_pieces, with_word, form_token, or_no_line}
 
 -- a run ends where the test fails
 abbrev Fails : (ℕ → Bool) → List ℕ → Type 0
@@ -55,7 +55,7 @@ abbrev Plain : ℕ → Type 0
 Plain c = eqb c 32 ≡ false
 
 plain_figure : (c : ℕ) → Figure c → Plain c
-plain_figure c f = ne_eqb c 32 (λ e. omega (arith, f.0))
+plain_figure c f = grind (arith, nat_tests, f.0)
 
 fields_plain : (p : List ℕ) → AllByRecursion Plain p → fields p ≡ p ∷ []
 fields_plain [] all = refl
@@ -88,8 +88,7 @@ abbrev Inner : ℕ → Type 0
 Inner c = inner c ≡ true
 
 inner_figure : (c : ℕ) → Figure c → Inner c
-inner_figure c f =
-    ap not (or_from (eqb c 40 || eqb c 41) (eqb c 10) (or_from (eqb c 40) (eqb c 41) (ne_eqb c 40 (λ e. omega (arith, f.0))) (ne_eqb c 41 (λ e. omega (arith, f.0)))) (ne_eqb c 10 (λ e. omega (arith, f.0))))
+inner_figure c f = grind (arith, nat_tests, f.0)
 
 inner_spaced : (ns : List ℤ) → Bounded ns → AllByRecursion Inner (spaced ns)
 inner_spaced [] b = tt
@@ -109,7 +108,7 @@ run_spaced (x ∷ ns) e b end =
     ap one_more (cond-true (filled (fields (take (prefix_len inner (q ++ e)) (q ++ e)))) (Some (prefix_len inner (q ++ e))) None full ∙ ap (λ k. Some k) count) ∙ ap (λ k. Some k) (add-one (length q))
 
 letter_in : (c : ℕ) → IsInRange 97 122 c → letter c ≡ true
-letter_in c i = and_from (leb 97 c) (leb c 122) (le-leb 97 c i.0) (le-leb c 122 i.1)
+letter_in c i = grind (arith, nat_tests, i.0, i.1)
 
 spaced_fails : (ns : List ℤ) (e : List ℕ) → Fails letter e → Fails letter (spaced ns ++ e)
 spaced_fails [] e f = f
@@ -118,14 +117,20 @@ spaced_fails (x ∷ ns) e f = refl
 word_some : (w : Word) → length (entry w).spelling ≡ 0 → ⊥
 word_some w e = let h = leb-true 1 (length (entry w).spelling) (each_word (λ v. leb 1 (length (entry v).spelling)) refl w) in omega arith
 
+not_empty : (n : ℕ) (w bs : List ℕ) → (length w ≡ 0 → ⊥) → with_word n w bs ≡ with_pieces n w bs (pieces_run bs)
+not_empty n [] bs some = absurd (some refl)
+not_empty n (c ∷ cs) bs some = refl
+
 -- what stands behind the bracket of a written line
 form_read : (n : ℕ) (w : Word) (ns : List ℤ) (e : List ℕ) → Bounded ns → Ending e → form_token n ((entry w).spelling ++ (spaced ns ++ e)) ≡ ended n (record { word = (entry w).spelling; pieces = spaced ns }) e
 form_read n w ns e b end =
     let word = (entry w).spelling in
     let tail = spaced ns ++ e in
-    formed n (word ++ tail) word tail (spaced ns) e (length word) (length (spaced ns))
-    (sym (run_at letter word tail (All-weaker (IsInRange 97 122) (λ c. letter c ≡ true) letter_in word (letters w)) (spaced_fails ns e end.1.1)))
-    (sym (take_at word tail (length word) refl)) (sym (drop_at word tail (length word) refl)) (word_some w) (run_spaced ns e b end) (sym (take_at (spaced ns) e (length (spaced ns)) refl)) (sym (drop_at (spaced ns) e (length (spaced ns)) refl))
+    let count : prefix_len letter (word ++ tail) ≡ length word = run_at letter word tail (All-weaker (IsInRange 97 122) (λ c. letter c ≡ true) letter_in word (letters w)) (spaced_fails ns e end.1.1) in
+    ap₂ (with_word n) (take_at word tail (prefix_len letter (word ++ tail)) (sym count)) (drop_at word tail (prefix_len letter (word ++ tail)) (sym count))
+    ∙ not_empty n word tail (word_some w)
+    ∙ ap (with_pieces n word tail) (run_spaced ns e b end)
+    ∙ ap₂ (λ (x y : List ℕ). ended n (record { word = word; pieces = x }) y) (take_at (spaced ns) e (length (spaced ns)) refl) (drop_at (spaced ns) e (length (spaced ns)) refl)
 
 -- a heading from the numbers of its word
 abbrev pub heading_of : Word → List ℤ → Heading
@@ -186,4 +191,4 @@ tells n bs r same l rest = (to r (sym same), λ e p. ap told_line same ∙ ap (�
     to (Ok x) e f =
         let pair : ◌≡◌ {A = Line × List ℕ} (as_line x.0, x.1) (l, rest) = cc in
         subst (λ (y : Line × List ℕ). (bs ≡ line_bytes y.0 ++ y.1) × Proper y.0) pair (written_by n bs x.0 x.1 e)
-    to (Err x) e f = let z : ◌≡◌ {A = ℕ} 0 1 = cc in absurd (omega arith)
+    to (Err x) e f = absurd (cc)

@@ -2,6 +2,7 @@
 use Rattle.std.proofs.Common.{◌≡◌, ℕ, ◌+◌, ◌≤◌, Bool, true, false, cond, eqb, leb, ◌⊎◌, List, [], ◌∷◌, ◌++◌, map, length, take, drop, ℤ, pos, nat_abs, IfOk, Some, None, Ok, Err, codes, Option, Result, sym, refl, ap, ◌∙◌, subst, ap₂, inl, inr, append_assoc, add-one, arith}
 use mathlib.Core.List.{tail-eq_of_cons-eq}
 use Rattle.std.proofs.lemmas.List.{take-append-drop}
+use Rattle.std.proofs.lemmas.Option.{some_pair_parts}
 use Rattle.std.proofs.lemmas.Result.{IfOk-at_ok}
 use Rattle.std.proofs.lemmas.Bool.{cond_both, eqb-true, leb-true}
 use Rattle.std.specs.List.{onto_first, prefix_len, flat_map, AllByRecursion}
@@ -41,7 +42,7 @@ spaced_front [] k e = let z : 0 ≡ k = cc in subst (λ j. Spaced (take j [])) z
 spaced_front (c ∷ cs) k e = go (eqb c 32) refl (filled_run cs) e
   where
     go : (t : Bool) → eqb c 32 ≡ t → (o : Option ℕ) → cond t (one_more o) (Some 0) ≡ Some k → Spaced (take k (c ∷ cs))
-    go true t None f = let z : ◌≡◌ {A = ℕ} 0 1 = cc in absurd (omega arith)
+    go true t None f = absurd (cc)
     go true t (Some m) f =
         let z : m + 1 ≡ k = cc in
         inr (take m cs, ap (λ j. take j (c ∷ cs)) (sym z ∙ add-one m) ∙ ap (λ x. x ∷ take m cs) (eqb-true c 32 t))
@@ -102,11 +103,11 @@ pub two_numbers : (w : Word) → (entry w).numbers ≤ 2
 two_numbers w = leb-true (entry w).numbers 2 (each_word (λ v. leb (entry v).numbers 2) refl w)
 
 both : (o p : Option ℤ) (x y : ℤ) → paired o p ≡ Some (x, y) → (o ≡ Some x) × (p ≡ Some y)
-both None p x y e = let z : ◌≡◌ {A = ℕ} 0 1 = cc in absurd (omega arith)
-both (Some a) None x y e = let z : ◌≡◌ {A = ℕ} 0 1 = cc in absurd (omega arith)
+both None p x y e = absurd (cc)
+both (Some a) None x y e = absurd (cc)
 both (Some a) (Some b) x y e =
-    let pair : ◌≡◌ {A = ℤ × ℤ} (a, b) (x, y) = cc in
-    (ap (λ (z : ℤ × ℤ). Some z.0) pair, ap (λ (z : ℤ × ℤ). Some z.1) pair)
+    let (f, g) = some_pair_parts a x b y e in
+    (ap (λ z. Some z) f, ap (λ z. Some z) g)
 
 -- pieces that are read as numbers are these numbers in decimal
 pieces_tell : (ps : List (List ℕ)) (x y : ℤ) → length ps ≤ 2 → numbers_read ps ≡ Some (x, y) → (ps ≡ map signed_decimal (take (length ps) (x ∷ y ∷ []))) × ((length (take (length ps) (x ∷ y ∷ [])) ≡ length ps) × AllByRecursion (λ z. nat_abs z ≤ literal_bound) (take (length ps) (x ∷ y ∷ [])))
@@ -127,7 +128,7 @@ rejoin (c ∷ cs) = go (eqb c 32) refl (fields cs) (rejoin cs)
   where
     go : (t : Bool) → eqb c 32 ≡ t → (fs : List (List ℕ)) → flat_map (λ (f : List ℕ). 32 ∷ f) fs ≡ 32 ∷ cs → flat_map (λ (f : List ℕ). 32 ∷ f) (cond t ([] ∷ fs) (onto_first c fs)) ≡ 32 ∷ c ∷ cs
     go true e fs ih = ap (λ (xs : List ℕ). 32 ∷ xs) ih ∙ ap (λ x. 32 ∷ x ∷ cs) (sym (eqb-true c 32 e))
-    go false e [] ih = let z : ◌≡◌ {A = ℕ} 0 1 = cc in absurd (omega arith)
+    go false e [] ih = absurd (cc)
     go false e (f ∷ fs) ih = ap (λ (xs : List ℕ). 32 ∷ c ∷ xs) (tail-eq_of_cons-eq ih)
 
 rejoined : (ps : List ℕ) → Spaced ps → flat_map (λ (f : List ℕ). 32 ∷ f) (pieces_in ps) ≡ ps
