@@ -5,8 +5,8 @@ use Rattle.trees.specs.Written.{written}
 use Rattle.forms.specs.declared.form.Entry.{Entry}
 use Rattle.forms.specs.Table.{NumberTree}
 use Rattle.reading.specs.Law.{Holds, HoldsLined, OpensLines, ReadsTrees}
-use Rattle.types.specs.Shown.{spare}
-use Rattle.types.specs.declared.variables.Variables.{Variables}
+use Rattle.stacks.specs.Stack.{spare}
+use Rattle.stacks.specs.declared.stack.Stack.{Stack}
 use Rattle.typing.specs.Numbers.{NumberAt}
 use Rattle.checking.specs.Check.{Spells}
 
@@ -23,7 +23,7 @@ whole text es entries u law lines some same = go (law.only refl)
     go (inr x) = record { tree = x.0; spells = record { limits = x.1; is = x.2 }; holds = subst (λ (l : List Entry). HoldsLined l x.0) (sym same) (x.3, lines x.0 x.1 x.2) }
 
 -- the tree can be typed, with no variable in scope
-pub at_start : (text : List ℕ) (es : List Entry) (v : Variables) (w : Whole text es) → spare v ≡ max_depth → NumberAt es v (length es - 1) 1 0 w.tree
+pub at_start : (text : List ℕ) (es : List Entry) (v : Stack Range max_depth) (w : Whole text es) → spare v ≡ max_depth → NumberAt es v (length es - 1) 1 0 w.tree
 at_start text es v w free =
     let limits = w.spells.limits in
     record {

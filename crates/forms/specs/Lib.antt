@@ -5,6 +5,5 @@ pub mod Limits
 pub mod Lined
 pub mod Padding
 pub mod Route
-pub mod Scope
 pub mod Table
 pub mod Totals

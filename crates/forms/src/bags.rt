@@ -47,10 +47,7 @@ pub fn find_route(entries: &[Entry], top: usize, nth: usize) -> Option<Route>
     requires is { (b : BagTree) × (part_at entries.now top ≡ a_bag b) }
     ensures { (b : BagTree) → part_at entries.now top ≡ a_bag b → Found entries.now top (leaves b) nth result }
 {
-    match seek(entries, top, nth) {
-        Ok(route) => Some(route),
-        Err(_) => None,
-    }
+    seek(entries, top, nth).ok()
 }
 
 // A row after the keep or put form at a position; none where it is dropped.
@@ -84,8 +81,9 @@ pub fn carry(entries: &[Entry], route: &Route, row: &[i64; CELLS]) -> Option<[i6
     ensures unseen { Unseen }
 {
     let mut carried = *row;
-    for i in 0..route.len() {
-        carried = pass(entries, route.step(i), carried)?;
+    let steps = route.steps();
+    for at in steps {
+        carried = pass(entries, *at, carried)?;
     }
     Some(carried)
 }

@@ -2,10 +2,9 @@
 ghost use Rattle.std.specs.Prelude.{◌≡◌, ◌<◌, ◌≤◌, List, length};
 ghost use Rattle.trees.specs.Meaning.{Row, clipped, number};
 ghost use Rattle.forms.specs.Calm.{inputs};
-ghost use Rattle.forms.specs.Limits.{room};
-ghost use Rattle.forms.specs.Scope.{in_scope, spare};
 ghost use Rattle.forms.specs.Table.{NumberTree};
 ghost use Rattle.forms.specs.Totals.{Ready};
+ghost use Rattle.stacks.specs.Stack.{spare, stacked};
 
 use crate::form::{Entry, Form, form_at};
 use crate::limits::ROOM;
@@ -29,15 +28,14 @@ pub struct Figures<'a> {
 impl Figures<'_> {
     // The value of the number at a position. Linear in its size; a `let` copies the scope once.
     pub fn number(&self, at: usize, scope: &Scope) -> i64
-        requires few { length self.now.entries.now ≤ room }
         requires spare { at < spare scope.now }
-        requires ready { (sources : List (List Row)) × (n : NumberTree) × Ready self.now.entries.now at self.now.totals.now self.now.settings.now (in_scope scope.now) sources n }
-        ensures { (sources : List (List Row)) (n : NumberTree) → Ready self.now.entries.now at self.now.totals.now self.now.settings.now (in_scope scope.now) sources n → result ≡ number n (inputs sources self.now.settings.now) (in_scope scope.now) }
+        requires ready { (sources : List (List Row)) × (n : NumberTree) × Ready self.now.entries.now at self.now.totals.now self.now.settings.now (stacked scope.now) sources n }
+        ensures { (sources : List (List Row)) (n : NumberTree) → Ready self.now.entries.now at self.now.totals.now self.now.settings.now (stacked scope.now) sources n → result ≡ number n (inputs sources self.now.settings.now) (stacked scope.now) }
     {
         match form_at(self.entries, at) {
             Form::Num { value } => value,
             Form::Setting { input } => self.settings[input as usize],
-            Form::Var { index } => scope.get(index as usize),
+            Form::Var { index } => scope.as_slice()[index as usize],
             Form::Count { .. } | Form::Sum { .. } => self.totals[at],
             Form::Add { left, right } => self.number(left, scope) + self.number(right, scope),
             Form::Sub { left, right } => self.number(left, scope) - self.number(right, scope),

@@ -17,7 +17,8 @@ use Rattle.reading.specs.declared.frame.Frame.{Frame}
 use Rattle.reading.specs.declared.progress.Progress.{Progress}
 use Rattle.reading.specs.Decide.{wanted, placed}
 use Rattle.reading.specs.Frame.{fresh, with_begun, with_part, entry_of}
-use Rattle.reading.specs.Stack.{stacked, first_of}
+use Rattle.reading.specs.Stack.{first_of}
+use Rattle.stacks.specs.Stack.{stacked}
 
 -- the open forms, the innermost first; how many forms are begun; and the first line with a form of a wrong kind
 pub record Standing : Type 0 where

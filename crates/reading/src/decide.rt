@@ -4,11 +4,13 @@ ghost use Rattle.reading.specs.Decide.{fits, has_parts, has_room, leaves_open, l
 
 use crate::fault::FormFault;
 use crate::frame::Frame;
-use crate::stack::MAX_DEPTH;
 use lines::heading::Heading;
 use lines::token::Token;
 use trees::Kind;
 use trees::words::Word;
+
+// How deep a form may stand.
+pub const MAX_DEPTH: usize = 16;
 
 // How many forms a text may have.
 pub const MAX_FORMS: usize = 64;

@@ -24,6 +24,7 @@ pub enum Stage {
     Forms,
 }
 
+// By hand, since a derived `From` does not say which fault it makes.
 impl From<LineFault> for FormFault {
     ghost from_gives = { λ e r. r ≡ Line e };
 
@@ -38,21 +39,9 @@ impl Fault for FormFault {
     fn refusal(&self) -> Refusal {
         match *self {
             FormFault::Line(of_line) => of_line.refusal(),
-            FormFault::Misplaced { line } => Refusal {
-                number: 8,
-                first: line,
-                second: 0,
-            },
-            FormFault::TooLarge { line } => Refusal {
-                number: 9,
-                first: line,
-                second: 0,
-            },
-            FormFault::WrongKind { line } => Refusal {
-                number: 10,
-                first: line,
-                second: 0,
-            },
+            FormFault::Misplaced { line } => Refusal::new(8, line, 0),
+            FormFault::TooLarge { line } => Refusal::new(9, line, 0),
+            FormFault::WrongKind { line } => Refusal::new(10, line, 0),
         }
     }
 }

@@ -20,6 +20,21 @@ pub struct Frame {
 }
 
 impl Frame {
+    // Stands where no form is open, and does not count.
+    pub const FILLER: Frame = Frame {
+        heading: Heading {
+            word: Word::Bag,
+            first: 0,
+            second: 0,
+        },
+        line: 0,
+        order: 0,
+        begun: 0,
+        third_last: 0,
+        second_last: 0,
+        last: 0,
+    };
+
     // A form without parts as yet.
     pub fn new(heading: Heading, line: usize, order: usize) -> Frame
         ensures { result ≡ fresh heading line order }
@@ -39,12 +54,7 @@ impl Frame {
     pub fn next_kind(&self) -> Option<Kind>
         ensures { result ≡ next_kind self.now }
     {
-        let kinds = self.heading.word.parts();
-        if self.begun < kinds.len() {
-            Some(kinds[self.begun])
-        } else {
-            None
-        }
+        self.heading.word.parts().get(self.begun).copied()
     }
 
     // One part more is begun.

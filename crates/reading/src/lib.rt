@@ -5,5 +5,4 @@ mod decide;
 pub mod fault;
 mod frame;
 mod progress;
-mod stack;
 pub mod text;

@@ -8,20 +8,20 @@ ghost use Rattle.reading.specs.Frame.{entry_of, fresh};
 ghost use Rattle.reading.specs.Progress.{Balanced, Steps, begun_form, is_wanted, opened_form, standing, start, state, with_closed};
 ghost use Rattle.reading.specs.Stack.{first_of};
 
-use crate::decide::{placed, wanted};
+use crate::decide::{MAX_DEPTH, placed, wanted};
 use crate::fault::FormFault;
 use crate::frame::Frame;
-use crate::stack::Stack;
 use forms::form::Entry;
 use forms::table::Table;
 use lines::heading::Heading;
 use lines::token::Token;
+use stacks::Stack;
 use trees::Kind;
 
 // The forms that are open, how many are begun, and the first line with a form of a wrong kind.
 #[derive(Clone, Copy)]
 pub struct Progress {
-    pub stack: Stack,
+    pub stack: Stack<Frame, MAX_DEPTH>,
     pub forms: usize,
     pub wrong: Option<usize>,
 }
@@ -32,7 +32,7 @@ impl Progress {
         ensures { standing result ≡ start }
     {
         Progress {
-            stack: Stack::new(),
+            stack: Stack::new(Frame::FILLER),
             forms: 0,
             wrong: None,
         }
@@ -49,7 +49,7 @@ impl Progress {
         ensures { Steps (state self.old table.old) last token result (state self.new table.new) }
     {
         let innermost = self.stack.innermost();
-        placed(innermost, self.stack.depth(), self.forms, last, token)?;
+        placed(innermost, self.stack.len(), self.forms, last, token)?;
         match (innermost, token) {
             (_, Token::Opening { heading, line }) => self.open(heading, line),
             (_, Token::Leaf { heading, line }) => {
@@ -116,8 +116,5 @@ impl Progress {
 fn is_wanted(wanted: Option<Kind>, kind: Kind) -> bool
     ensures { result ≡ is_wanted wanted kind }
 {
-    match wanted {
-        Some(k) => k as u8 == kind as u8,
-        None => false,
-    }
+    wanted == Some(kind)
 }

@@ -1,9 +1,8 @@
 -- A word and its spelling: each is found by the other.
-use Rattle.std.proofs.Common.{◌≡◌, ℕ, ◌+◌, ◌<◌, Bool, true, false, cond, ◌&&◌, leb, List, [], ◌∷◌, length, get_or, drop, Some, Option, sym, refl, ap, ◌∙◌, ⊎_elim}
+use Rattle.std.proofs.Common.{◌≡◌, ℕ, Bool, true, false, cond, leb, List, [], ◌∷◌, Some, Option, sym, refl, ap, ◌∙◌}
 use Rattle.std.proofs.lemmas.Slice.Eq.{bytes_eq-Decides}
-use Rattle.std.proofs.lemmas.List.{drop_more}
-use Rattle.std.proofs.lemmas.Bool.{cond-true, cond-false, cases_Bool, and_parts, leb-true}
-use Rattle.std.specs.List.{AllByRecursion}
+use Rattle.std.proofs.lemmas.Bool.{and_parts, leb-true}
+use Rattle.std.specs.List.{AllByRecursion, list_all}
 use Rattle.std.specs.Str.{bytes_eq}
 use Rattle.std.specs.Int.{IsInRange, is_in_range}
 use Rattle.trees.specs.declared.words.Word.{Word}
@@ -60,44 +59,29 @@ pub names : (bs : List ℕ) → Names bs (word_spelled bs)
 unfolding word_spelled
 names bs w = (found_spelling all_words bs w, λ e. ap word_spelled e ∙ found w)
 
--- a step through the words: the answer is here, or with the words that follow
-module _ (ws : List Word) (i : ℕ) (d : Word) (bs : List ℕ) (h : i < length ws) where
-  spelled_step : spelled_in (drop i ws) bs ≡ cond (bytes_eq (entry (get_or ws i d)).spelling bs) (Some (get_or ws i d)) (spelled_in (drop (i + 1) ws) bs)
-  spelled_step = ap (λ (xs : List Word). spelled_in xs bs) (drop_more ws i d h)
-
-  pub spelled_here : (entry (get_or ws i d)).spelling ≡ bs → spelled_in (drop i ws) bs ≡ Some (get_or ws i d)
-  spelled_here e = spelled_step ∙ cond-true (bytes_eq (entry (get_or ws i d)).spelling bs) (Some (get_or ws i d)) (spelled_in (drop (i + 1) ws) bs) ((bytes_eq-Decides (entry (get_or ws i d)).spelling bs).1 e)
-
-  pub spelled_later : ((entry (get_or ws i d)).spelling ≡ bs → ⊥) → spelled_in (drop i ws) bs ≡ spelled_in (drop (i + 1) ws) bs
-  spelled_later other = spelled_step ∙ cond-false (bytes_eq (entry (get_or ws i d)).spelling bs) (Some (get_or ws i d)) (spelled_in (drop (i + 1) ws) bs) (⊎_elim (λ t. absurd (other ((bytes_eq-Decides (entry (get_or ws i d)).spelling bs).0 t))) (λ f. f) (cases_Bool (bytes_eq (entry (get_or ws i d)).spelling bs)))
-
--- a rule that every word of the table keeps, by one test over the table
-abbrev pub every : {X : Type 0} → (X → Bool) → List X → Bool
-every test [] = true
-every test (x ∷ xs) = test x && every test xs
-
 pass_by : (test : Word → Bool) (v w : Word) (o : Option Word) → test v ≡ true → (o ≡ Some w → test w ≡ true) → (t : Bool) → cond t (Some v) o ≡ Some w → test w ≡ true
 pass_by test v w o passes later true e = let same : v ≡ w = cc in sym (ap test same) ∙ passes
 pass_by test v w o passes later false e = later e
 
-found_passes : (test : Word → Bool) (ws : List Word) (bs : List ℕ) (w : Word) → every test ws ≡ true → spelled_in ws bs ≡ Some w → test w ≡ true
+found_passes : (test : Word → Bool) (ws : List Word) (bs : List ℕ) (w : Word) → list_all test ws ≡ true → spelled_in ws bs ≡ Some w → test w ≡ true
 found_passes test [] bs w all e = cc
 found_passes test (v ∷ ws) bs w all e =
-    let (here, later) = and_parts (test v) (every test ws) all in
+    let (here, later) = and_parts (test v) (list_all test ws) all in
     pass_by test v w (spelled_in ws bs) here (found_passes test ws bs w later) (bytes_eq (entry v).spelling bs) e
 
-pub each_word : (test : Word → Bool) → every test all_words ≡ true → (w : Word) → test w ≡ true
+-- what a test over the table tells holds of every word
+pub each_word : (test : Word → Bool) → list_all test all_words ≡ true → (w : Word) → test w ≡ true
 unfolding word_spelled
 each_word test all w = found_passes test all_words (entry w).spelling w all (found w)
 
-pub all_from_every : {X : Type 0} (test : X → Bool) (P : X → Type 0) → ((x : X) → test x ≡ true → P x) → (xs : List X) → every test xs ≡ true → AllByRecursion P xs
-all_from_every test P passed [] all = tt
-all_from_every test P passed (x ∷ xs) all =
-    let (here, later) = and_parts (test x) (every test xs) all in
-    (passed x here, all_from_every test P passed xs later)
+pub all_from_list_all : {X : Type 0} (test : X → Bool) (P : X → Type 0) → ((x : X) → test x ≡ true → P x) → (xs : List X) → list_all test xs ≡ true → AllByRecursion P xs
+all_from_list_all test P passed [] all = tt
+all_from_list_all test P passed (x ∷ xs) all =
+    let (here, later) = and_parts (test x) (list_all test xs) all in
+    (passed x here, all_from_list_all test P passed xs later)
 
 -- a word is spelled with lower-case letters
 pub letters : (w : Word) → AllByRecursion (IsInRange 97 122) (entry w).spelling
 letters w =
-    all_from_every (is_in_range 97 122) (IsInRange 97 122) (λ c e. let (lo, hi) = and_parts (leb 97 c) (leb c 122) e in (leb-true 97 c lo, leb-true c 122 hi)) (entry w).spelling
-    (each_word (λ v. every (is_in_range 97 122) (entry v).spelling) refl w)
+    all_from_list_all (is_in_range 97 122) (IsInRange 97 122) (λ c e. let (lo, hi) = and_parts (leb 97 c) (leb c 122) e in (leb-true 97 c lo, leb-true c 122 hi)) (entry w).spelling
+    (each_word (λ v. list_all (is_in_range 97 122) (entry v).spelling) refl w)

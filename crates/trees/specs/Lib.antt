@@ -1,4 +1,5 @@
 pub mod Fold
+pub mod Kinds
 pub mod Meaning
 pub mod Size
 pub mod Tree

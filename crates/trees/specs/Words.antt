@@ -1,5 +1,5 @@
 -- The table of words: how each is spelled, what its form gives, how many numbers follow it, and the kinds of its parts.
-use Rattle.std.specs.Prelude.{◌≡◌, ℕ, Bool, cond, List, [], ◌∷◌, Some, None, codes, Option}
+use Rattle.std.specs.Prelude.{◌≡◌, ℕ, Bool, List, [], ◌∷◌, Some, codes, find, Option}
 use Prim.Native.String.{String}
 use Rattle.std.specs.Ordering.{on}
 use Rattle.std.specs.Str.{bytes_eq}
@@ -56,8 +56,7 @@ spelled_alike = on (λ w. (entry w).spelling) bytes_eq
 
 -- the first of ws that is spelled bs
 abbrev pub spelled_in : List Word → List ℕ → Option Word
-spelled_in [] bs = None
-spelled_in (w ∷ ws) bs = cond (bytes_eq (entry w).spelling bs) (Some w) (spelled_in ws bs)
+spelled_in ws bs = find (λ w. bytes_eq (entry w).spelling bs) ws
 
 -- the word that is spelled bs, if any is
 unfoldable pub word_spelled : List ℕ → Option Word

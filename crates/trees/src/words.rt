@@ -1,13 +1,10 @@
 // The words of a query, by one table: how each is spelled, what its form gives, and what stands in it.
-ghost use Rattle.std.specs.Prelude.{◌≡◌, Decides};
-ghost use Rattle.trees.specs.Words.{entry, all_words, spelled_alike, spelled_in, word_spelled, Names, SpelledApart};
-ghost use Rattle.std.specs.Cmp.Rules.{comparing};
-ghost use Rattle.std.proofs.Common.{rules};
-ghost use Rattle.std.specs.Cmp as Keys;
+ghost use Rattle.std.specs.Prelude.{◌≡◌};
+ghost use Rattle.trees.specs.Words.{entry, spelled_in, word_spelled, Names, SpelledApart};
 
 use crate::Kind;
 
-#[derive(Clone, Copy, Debug)]
+#[derive(Clone, Copy, PartialEq, Eq, Debug)]
 pub enum Word {
     Bag,
     Keep,
@@ -34,24 +31,6 @@ pub enum Word {
     Scale,
     Clip,
     Let,
-}
-
-// Words are compared by their places; that comes to the same as comparing how they are spelled.
-impl PartialEq for Word {
-    ghost eq = { spelled_alike };
-
-    ghost laws = { Keys.partial_equiv_from_equiv (Prim.search (comparing, rules)) };
-
-    fn eq(&self, other: &Word) -> bool
-        ensures value { result ≡ spelled_alike self.now other.now }
-        ensures same { Decides result (self.now ≡ other.now) }
-    {
-        *self as u8 == *other as u8
-    }
-}
-
-impl Eq for Word {
-    ghost laws = { Prim.search (comparing, rules) };
 }
 
 // Every word once.
@@ -90,7 +69,7 @@ impl Word {
         ensures exactly { Names spelling.now result }
         ensures apart { SpelledApart }
     {
-        in_table(spelling)
+        first_spelled(&WORDS, spelling)
     }
 
     pub fn spelling(self) -> &'static [u8]
@@ -178,21 +157,13 @@ impl Word {
     }
 }
 
-fn in_table(spelling: &[u8]) -> Option<Word>
-    ensures { result ≡ spelled_in all_words spelling.now }
-{
-    first_spelled(&WORDS, spelling)
-}
-
 fn first_spelled(among: &[Word], spelling: &[u8]) -> Option<Word>
     ensures { result ≡ spelled_in among.now spelling.now }
 {
-    for word in among {
-        if word.spelling() == spelling {
-            return Some(*word);
-        }
-    }
-    None
+    among
+        .iter()
+        .copied()
+        .find(|word| word.spelling() == spelling)
 }
 
 #[cfg(test)]

@@ -1,25 +1,15 @@
 -- What the rules give bags and numbers, as the code holds it.
-use Rattle.std.specs.Prelude.{◌≡◌, ℕ, ◌≤◌, true, List, drop}
+use Rattle.std.specs.Prelude.{◌≡◌, ℕ, ◌≤◌, true, drop}
 use Rattle.forms.specs.Limits.{number_bound}
 use Rattle.rules.specs.Amounts.{all_at_most, at_most}
 use Rattle.rules.specs.Ranges.{bounded}
 use Rattle.rules.specs.Typing.{BagType, NumberType, sensitivity_bound}
 use Rattle.sources.specs.Shapes.{columns_of, max_width}
-use Rattle.sources.specs.declared.shapes.Range.{Range}
 use Rattle.types.specs.declared.bag.TypedBag.{TypedBag}
 use Rattle.types.specs.declared.number.TypedNumber.{TypedNumber}
-use Rattle.types.specs.declared.variables.Variables.{Variables}
 
 abbrev pub bag_shown : TypedBag → BagType
 bag_shown x = record { limit = x.shape.limit; columns = columns_of x.shape; inputs = x.inputs }
-
--- the ranges of the variables, the innermost first
-abbrev pub in_scope : Variables → List Range
-in_scope v = drop v.first v.ranges
-
--- how many variables more there is room for
-abbrev pub spare : Variables → ℕ
-spare v = v.first
 
 -- a number in a scope with `first` to spare
 abbrev pub number_shown : ℕ → TypedNumber → NumberType

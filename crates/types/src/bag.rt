@@ -5,7 +5,8 @@ ghost use Rattle.rules.specs.Amounts.{at_most};
 ghost use Rattle.rules.specs.Catalogue.{faulty_input};
 ghost use Rattle.rules.specs.Ranges.{most_rows};
 ghost use Rattle.rules.specs.Typing.{bag_rule, index, place, pooled, replaced, scope_rule, sensitivity_bound, settle, source_type};
-ghost use Rattle.sources.specs.Shapes.{columns_of, max_rows, max_width};
+ghost use Rattle.sources.specs.Indexed.{listed};
+ghost use Rattle.sources.specs.Shapes.{column, columns_of, max_rows, max_width};
 ghost use Rattle.sources.specs.Unions.{hulls};
 ghost use Rattle.types.specs.Faults.{told};
 ghost use Rattle.types.specs.Shown.{BagGood, bag_shown};
@@ -16,7 +17,7 @@ use crate::place::place_in_scope;
 use rules::amounts::Amounts;
 use rules::catalogue::Catalogue;
 use rules::ranges::hull;
-use sources::{Range, Shape};
+use sources::{MAX_WIDTH, Range, Shape};
 use std::array;
 
 // Of the shape's columns the first `width` count. Its limit may be that of several sources together.
@@ -72,6 +73,14 @@ impl TypedBag {
         })
     }
 
+    // The ranges of its columns, lent.
+    pub fn columns(&self) -> &[Range]
+        requires { self.now.shape.width ≤ max_width }
+        ensures { result.now ≡ columns_of self.now.shape }
+    {
+        front(&self.shape.columns, self.shape.width)
+    }
+
     fn whole(catalogue: &Catalogue, source: usize) -> TypedBag
         requires { source < 2 }
         ensures value { bag_shown result ≡ source_type catalogue.now source }
@@ -82,6 +91,14 @@ impl TypedBag {
             inputs: Amounts::one_at(source),
         }
     }
+}
+
+// The first `width` of the columns.
+fn front(columns: &[Range; MAX_WIDTH], width: usize) -> &[Range]
+    requires { width ≤ max_width }
+    ensures { result.now ≡ listed (column columns.now) width }
+{
+    &columns[..width]
 }
 
 // A shape, one column of which has another range.

@@ -1,6 +1,6 @@
 -- Notes that are written behind others, and in front of others.
 use Rattle.std.proofs.Common.{◌≡◌, ℕ, ◌+◌, ◌<◌, ◌≤◌, List, [], ◌∷◌, ◌++◌, length, get_or, take, drop, set, sym, ap, ◌∙◌, ap₂, append_assoc, arith}
-use Rattle.std.proofs.lemmas.List.{drop_at, drop-drop, length-append, length-take-le, set_at, take-append-drop, take_at, take_more}
+use Rattle.std.proofs.lemmas.List.{drop_at, drop-append-le, drop-drop, length-append, length-take-le, set_at, take-append-drop, take-append-le, take_at, take_more}
 use Rattle.typing.specs.Notes.{blank_note, noted_at}
 use Rattle.typing.specs.declared.note.Note.{Note}
 
@@ -39,3 +39,9 @@ module _ (before : List Note) (o : ℕ) where
   -- first xs, then ys behind them
   pub noted_both : (i : ℕ) (xs ys between now_noted : List Note) → between ≡ noted_at before o xs → now_noted ≡ noted_at between i ys → i ≡ o + length xs → o ≤ length before → now_noted ≡ noted_at before o (xs ++ ys)
   noted_both i xs ys between now_noted e f at h = f ∙ ap (λ (l : List Note). noted_at l i ys) e ∙ noted_more i xs ys at h
+
+-- Notes that all stand in the front part of the places are written there.
+pub noted_in_front : (front rest : List Note) (o : ℕ) (ns : List Note) → o + length ns ≤ length front → noted_at (front ++ rest) o ns ≡ noted_at front o ns ++ rest
+noted_in_front front rest o ns fits =
+    ap₂ (λ (a b : List Note). a ++ (ns ++ b)) (take-append-le o front rest (omega arith)) (drop-append-le (o + length ns) front rest fits)
+    ∙ simp append_assoc

@@ -1,8 +1,9 @@
 -- The notes of a query: one for each form, in order of opening lines, with what the rules give the form that opens on line n.
-use Rattle.std.specs.Prelude.{ℕ, ◌+◌, List, [], ◌∷◌, ◌++◌, length, take, drop, ℤ, pos, Ok, Err, Result}
+use Rattle.std.specs.Prelude.{ℕ, ◌+◌, List, [], ◌∷◌, ◌++◌, length, take, drop, ℤ, pos, Some, None, Ok, Err, Option, Result}
 use Rattle.refusals.specs.declared.Refusal.{Refusal}
 use Rattle.sources.specs.Shapes.{range}
 use Rattle.sources.specs.declared.shapes.Range.{Range}
+use Rattle.trees.specs.declared.Kind.{Kind}
 use Rattle.trees.specs.declared.Kind.TheVariants.{Bag, Condition, Number, Term}
 use Rattle.trees.specs.Tree.{Tree}
 use Rattle.trees.specs.Tree.Tree.{bag, keep, put, pool, col, lit, plus, times, pick, less, equal, either, not, num, setting, var, count, sum, add, sub, least, most, scale, clip, let_in}
@@ -12,26 +13,32 @@ use Rattle.rules.specs.Typing.{BagType, NumberType, bag_typed, number_typed, ter
 use Rattle.rules.specs.declared.amounts.Amounts.{Amounts}
 use Rattle.rules.specs.declared.catalogue.Catalogue.{Catalogue}
 use Rattle.typing.specs.declared.note.Note.{Note}
-use Rattle.typing.specs.declared.note.NoteKind.{NoteKind}
-use Rattle.typing.specs.declared.note.NoteKind.TheVariants as kind
 
-abbrev pub note : NoteKind → ℤ → ℤ → Amounts → Note
+abbrev pub note : Option Kind → ℤ → ℤ → Amounts → Note
 note k low high a = record { kind = k; low = low; high = high; sensitivities = a }
 
+-- 0 for none
+abbrev pub kind_number : Option Kind → ℕ
+kind_number None = 0
+kind_number (Some Term) = 1
+kind_number (Some Condition) = 2
+kind_number (Some Bag) = 3
+kind_number (Some Number) = 4
+
 abbrev pub blank_note : Note
-blank_note = note kind.Blank (pos 0) (pos 0) none
+blank_note = note None (pos 0) (pos 0) none
 
 abbrev pub condition_note : Note
-condition_note = note kind.Condition (pos 0) (pos 0) none
+condition_note = note (Some Condition) (pos 0) (pos 0) none
 
 abbrev pub term_note : Range → Note
-term_note r = note kind.Term r.low r.high none
+term_note r = note (Some Term) r.low r.high none
 
 abbrev pub bag_note : ℕ → Amounts → Note
-bag_note limit a = note kind.Bag (pos 0) (pos limit) a
+bag_note limit a = note (Some Bag) (pos 0) (pos limit) a
 
 abbrev pub number_note : Range → Amounts → Note
-number_note r a = note kind.Number r.low r.high a
+number_note r a = note (Some Number) r.low r.high a
 
 -- what is noted of a form that the rules type
 abbrev pub noted : {X : Type 0} → (X → Note) → Result X Refusal → Note

@@ -2,6 +2,7 @@
 #![tactic(auto)]
 
 mod bags;
+mod basis;
 pub mod note;
 pub mod numbers;
 mod terms;

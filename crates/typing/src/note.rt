@@ -1,24 +1,17 @@
 // What is noted of each form: its kind, its range and its sensitivities.
 ghost use Rattle.std.specs.Prelude.{◌≡◌, ◌≤◌, pos};
 ghost use Rattle.rules.specs.Ranges.{most_rows};
-ghost use Rattle.typing.specs.Notes.{bag_note, number_note, term_note};
+ghost use Rattle.typing.specs.Notes.{bag_note, kind_number, number_note, term_note};
 
 use rules::amounts::Amounts;
 use sources::Range;
+use trees::Kind;
 
-#[derive(Clone, Copy, PartialEq, Eq, Debug)]
-pub enum NoteKind {
-    Blank,
-    Term,
-    Condition,
-    Bag,
-    Number,
-}
-
-// A condition has no range. A bag's range is the number of its rows. Only bags and numbers have sensitivities.
+// A blank place has no kind. A condition has no range. A bag's range is the number of its rows. Only bags and numbers have
+// sensitivities.
 #[derive(Clone, Copy, PartialEq, Eq, Debug)]
 pub struct Note {
-    pub kind: NoteKind,
+    pub kind: Option<Kind>,
     pub low: i64,
     pub high: i64,
     pub sensitivities: Amounts,
@@ -26,24 +19,31 @@ pub struct Note {
 
 impl Note {
     pub const BLANK: Note = Note {
-        kind: NoteKind::Blank,
+        kind: None,
         low: 0,
         high: 0,
         sensitivities: Amounts::NONE,
     };
 
     pub const CONDITION: Note = Note {
-        kind: NoteKind::Condition,
+        kind: Some(Kind::Condition),
         low: 0,
         high: 0,
         sensitivities: Amounts::NONE,
     };
 
+    // 0 where it is blank; 1 for a term, 2 for a condition, 3 for a bag and 4 for a number.
+    pub fn kind_number(&self) -> u8
+        ensures { result ≡ kind_number self.now.kind }
+    {
+        self.kind.map_or(0, |kind| kind as u8 + 1)
+    }
+
     pub fn of_term(range: Range) -> Note
         ensures { result ≡ term_note range }
     {
         Note {
-            kind: NoteKind::Term,
+            kind: Some(Kind::Term),
             low: range.low,
             high: range.high,
             sensitivities: Amounts::NONE,
@@ -55,7 +55,7 @@ impl Note {
         ensures { result ≡ bag_note limit sensitivities }
     {
         Note {
-            kind: NoteKind::Bag,
+            kind: Some(Kind::Bag),
             low: 0,
             high: limit as i64,
             sensitivities,
@@ -66,7 +66,7 @@ impl Note {
         ensures { result ≡ number_note range sensitivities }
     {
         Note {
-            kind: NoteKind::Number,
+            kind: Some(Kind::Number),
             low: range.low,
             high: range.high,
             sensitivities,

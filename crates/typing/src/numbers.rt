@@ -7,10 +7,11 @@ ghost use Rattle.rules.specs.Catalogue.{faulty_input};
 ghost use Rattle.trees.specs.Size.{size};
 ghost use Rattle.typing.specs.Numbers.{NumberAt, NumberDrafted, NumberTyped, NumbersTyped};
 
-use crate::bags::bag;
+use crate::basis::Basis;
 use crate::note::Note;
-use crate::terms::{entry_at, term};
+use crate::terms::{TermBasis, entry_at};
 use forms::form::{Entry, Form, form_at};
+use forms::limits::ROOM;
 use rules::amounts::Amounts;
 use rules::catalogue::Catalogue;
 use rules::ranges::point;
@@ -19,7 +20,6 @@ use types::number::TypedNumber;
 use types::variables::Variables;
 
 // Types the number at a position, and notes each form of it. Linear in its size.
-#[cycle(typed_numbers)]
 pub fn number(
     entries: &[Entry],
     catalogue: &Catalogue,
@@ -32,103 +32,120 @@ pub fn number(
     requires is { (n o : ℕ) × (t : NumberTree) × NumberAt entries.now scope.now at n o t }
     ensures { (n o : ℕ) (t : NumberTree) → NumberAt entries.now scope.now at n o t → NumberTyped catalogue.now scope.now n o t notes.old result notes.new }
 {
-    let entry = entry_at(entries, at);
-    let typed = draft_number(entries, catalogue, at, scope, notes)?;
-    typed.settle(scope, entry.line)?;
-    notes[entry.order] = Note::of_number(typed.range, typed.inputs);
-    Ok(typed)
+    let Some(places) = notes.first_chunk_mut::<ROOM>() else {
+        unreachable!()
+    };
+    Basis { entries, catalogue }.number(at, scope, places)
 }
 
-// The type of the number at a position, before it is held to its bounds.
-#[cycle(typed_numbers)]
-fn draft_number(
-    entries: &[Entry],
-    catalogue: &Catalogue,
-    at: usize,
-    scope: &Variables,
-    notes: &mut [Note],
-) -> Result<TypedNumber, RuleFault>
-    requires sound { faulty_input catalogue.now ≡ None }
-    requires places { room ≤ length notes.old }
-    requires is { (n o : ℕ) × (t : NumberTree) × NumberAt entries.now scope.now at n o t }
-    ensures { (n o : ℕ) (t : NumberTree) → NumberAt entries.now scope.now at n o t → NumberDrafted catalogue.now scope.now n o t notes.old result notes.new }
-{
-    let line = entry_at(entries, at).line;
-    match form_at(entries, at) {
-        Form::Num { value } => Ok(TypedNumber::unbound(point(value), Amounts::NONE)),
-        Form::Setting { input } => TypedNumber::of_setting(catalogue, input, line),
-        Form::Var { index } => TypedNumber::of_variable(scope, index, line),
-        Form::Count { bag: of } => {
-            let rows = bag(entries, catalogue, of, notes)?;
-            Ok(TypedNumber::of_count(&rows))
-        }
-        Form::Sum {
-            low,
-            high,
-            bag: of,
-            term: value,
-        } => {
-            let rows = bag(entries, catalogue, of, notes)?;
-            term(entries, value, &rows.shape, notes)?;
-            TypedNumber::of_sum(low, high, &rows, line)
-        }
-        Form::Add { left, right } => {
-            let (x, y) = two_numbers(entries, catalogue, left, right, scope, notes)?;
-            Ok(x.plus(&y, scope))
-        }
-        Form::Sub { left, right } => {
-            let (x, y) = two_numbers(entries, catalogue, left, right, scope, notes)?;
-            Ok(x.minus(&y, scope))
-        }
-        Form::Least { left, right } => {
-            let (x, y) = two_numbers(entries, catalogue, left, right, scope, notes)?;
-            Ok(x.least(&y, scope))
-        }
-        Form::Most { left, right } => {
-            let (x, y) = two_numbers(entries, catalogue, left, right, scope, notes)?;
-            Ok(x.most(&y, scope))
-        }
-        Form::Scale {
-            factor,
-            number: inner,
-        } => {
-            let x = number(entries, catalogue, inner, scope, notes)?;
-            Ok(x.scaled(factor, scope))
-        }
-        Form::Clip {
-            low,
-            high,
-            number: inner,
-        } => {
-            let x = number(entries, catalogue, inner, scope, notes)?;
-            x.clipped(low, high, line)
-        }
-        Form::Let { bound, body } => {
-            let x = number(entries, catalogue, bound, scope, notes)?;
-            let inner = scope.with(x.range);
-            let y = number(entries, catalogue, body, &inner, notes)?;
-            Ok(y.named(&x, scope))
-        }
-        _ => unreachable(),
+impl Basis<'_> {
+    // Types the number at a position, and notes each form of it.
+    #[cycle(typed_numbers)]
+    fn number(
+        &self,
+        at: usize,
+        scope: &Variables,
+        notes: &mut [Note; ROOM],
+    ) -> Result<TypedNumber, RuleFault>
+        requires { (n o : ℕ) × (t : NumberTree) × NumberAt self.now.entries.now scope.now at n o t }
+        ensures { (n o : ℕ) (t : NumberTree) → NumberAt self.now.entries.now scope.now at n o t → NumberTyped self.now.catalogue.now scope.now n o t notes.old result notes.new }
+    {
+        let entry = entry_at(self.entries, at);
+        let typed = self.draft_number(at, scope, notes)?;
+        typed.settle(scope, entry.line)?;
+        notes[entry.order] = Note::of_number(typed.range, typed.inputs);
+        Ok(typed)
     }
-}
 
-// One number, and the number behind it.
-#[cycle(typed_numbers)]
-fn two_numbers(
-    entries: &[Entry],
-    catalogue: &Catalogue,
-    left: usize,
-    right: usize,
-    scope: &Variables,
-    notes: &mut [Note],
-) -> Result<(TypedNumber, TypedNumber), RuleFault>
-    requires sound { faulty_input catalogue.now ≡ None }
-    requires places { room ≤ length notes.old }
-    requires is { (n o : ℕ) × (a b : NumberTree) × NumberAt entries.now scope.now left n o a × NumberAt entries.now scope.now right (past n a) (o + size a) b }
-    ensures { (n o : ℕ) (a b : NumberTree) → NumberAt entries.now scope.now left n o a → NumberAt entries.now scope.now right (past n a) (o + size a) b → NumbersTyped catalogue.now scope.now n o a b notes.old result notes.new }
-{
-    let x = number(entries, catalogue, left, scope, notes)?;
-    let y = number(entries, catalogue, right, scope, notes)?;
-    Ok((x, y))
+    // The type of the number at a position, before it is held to its bounds.
+    #[cycle(typed_numbers)]
+    fn draft_number(
+        &self,
+        at: usize,
+        scope: &Variables,
+        notes: &mut [Note; ROOM],
+    ) -> Result<TypedNumber, RuleFault>
+        requires { (n o : ℕ) × (t : NumberTree) × NumberAt self.now.entries.now scope.now at n o t }
+        ensures { (n o : ℕ) (t : NumberTree) → NumberAt self.now.entries.now scope.now at n o t → NumberDrafted self.now.catalogue.now scope.now n o t notes.old result notes.new }
+    {
+        let line = entry_at(self.entries, at).line;
+        match form_at(self.entries, at) {
+            Form::Num { value } => Ok(TypedNumber::unbound(point(value), Amounts::NONE)),
+            Form::Setting { input } => TypedNumber::of_setting(self.catalogue, input, line),
+            Form::Var { index } => TypedNumber::of_variable(scope, index, line),
+            Form::Count { bag: of } => {
+                let rows = self.bag(of, notes)?;
+                Ok(TypedNumber::of_count(&rows))
+            }
+            Form::Sum {
+                low,
+                high,
+                bag: of,
+                term: value,
+            } => {
+                let rows = self.bag(of, notes)?;
+                let beside = TermBasis {
+                    entries: self.entries,
+                    columns: rows.columns(),
+                };
+                beside.term(value, notes)?;
+                TypedNumber::of_sum(low, high, &rows, line)
+            }
+            Form::Add { left, right } => {
+                let (x, y) = self.two_numbers(left, right, scope, notes)?;
+                Ok(x.plus(&y, scope))
+            }
+            Form::Sub { left, right } => {
+                let (x, y) = self.two_numbers(left, right, scope, notes)?;
+                Ok(x.minus(&y, scope))
+            }
+            Form::Least { left, right } => {
+                let (x, y) = self.two_numbers(left, right, scope, notes)?;
+                Ok(x.least(&y, scope))
+            }
+            Form::Most { left, right } => {
+                let (x, y) = self.two_numbers(left, right, scope, notes)?;
+                Ok(x.most(&y, scope))
+            }
+            Form::Scale {
+                factor,
+                number: inner,
+            } => {
+                let x = self.number(inner, scope, notes)?;
+                Ok(x.scaled(factor, scope))
+            }
+            Form::Clip {
+                low,
+                high,
+                number: inner,
+            } => {
+                let x = self.number(inner, scope, notes)?;
+                x.clipped(low, high, line)
+            }
+            Form::Let { bound, body } => {
+                let x = self.number(bound, scope, notes)?;
+                let inner = scope.with(x.range);
+                let y = self.number(body, &inner, notes)?;
+                Ok(y.named(&x, scope))
+            }
+            _ => unreachable(),
+        }
+    }
+
+    // One number, and the number behind it.
+    #[cycle(typed_numbers)]
+    fn two_numbers(
+        &self,
+        left: usize,
+        right: usize,
+        scope: &Variables,
+        notes: &mut [Note; ROOM],
+    ) -> Result<(TypedNumber, TypedNumber), RuleFault>
+        requires { (n o : ℕ) × (a b : NumberTree) × NumberAt self.now.entries.now scope.now left n o a × NumberAt self.now.entries.now scope.now right (past n a) (o + size a) b }
+        ensures { (n o : ℕ) (a b : NumberTree) → NumberAt self.now.entries.now scope.now left n o a → NumberAt self.now.entries.now scope.now right (past n a) (o + size a) b → NumbersTyped self.now.catalogue.now scope.now n o a b notes.old result notes.new }
+    {
+        let x = self.number(left, scope, notes)?;
+        let y = self.number(right, scope, notes)?;
+        Ok((x, y))
+    }
 }

@@ -76,7 +76,7 @@ fn read_typed(
         entries,
         catalogue,
         entries.len() - 1,
-        &Variables::new(),
+        &Variables::new(Range::ZERO),
         notes,
     )?;
     Ok(typed)

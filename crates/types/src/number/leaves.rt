@@ -4,9 +4,11 @@ ghost use Rattle.rules.specs.Amounts.{at_most, one_at, times as multiplied};
 ghost use Rattle.rules.specs.Catalogue.{setting_range};
 ghost use Rattle.rules.specs.Ranges.{counts, most_rows, totals};
 ghost use Rattle.rules.specs.Typing.{index, place, scope_rule, sensitivity_bound, settle, unbound, variable};
-ghost use Rattle.trees.specs.Size.{literal_bound};
+ghost use Rattle.trees.specs.Size.{max_depth, literal_bound};
 ghost use Rattle.types.specs.Faults.{told};
-ghost use Rattle.types.specs.Shown.{in_scope, number_shown, spare};
+ghost use Rattle.stacks.specs.declared.stack.Stack.{Stack};
+ghost use Rattle.stacks.specs.Stack.{spare, stacked};
+ghost use Rattle.types.specs.Shown.{number_shown};
 
 use super::TypedNumber;
 use crate::bag::TypedBag;
@@ -22,7 +24,7 @@ use sources::Range;
 impl TypedNumber {
     // A number that moves with no variable.
     pub fn unbound(range: Range, inputs: Amounts) -> TypedNumber
-        ensures { (v : Variables) → number_shown (spare v) result ≡ unbound (in_scope v) range inputs }
+        ensures { (v : Stack Range max_depth) → number_shown (spare v) result ≡ unbound (stacked v) range inputs }
     {
         TypedNumber {
             range,
@@ -36,32 +38,28 @@ impl TypedNumber {
         setting: i64,
         line: usize,
     ) -> Result<TypedNumber, RuleFault>
-        ensures { (v : Variables) → told (number_shown (spare v)) result ≡ settle (scope_rule line (place 2 setting)) (unbound (in_scope v) (setting_range catalogue.now (index setting)) (one_at (2 + index setting))) }
+        ensures { (v : Stack Range max_depth) → told (number_shown (spare v)) result ≡ settle (scope_rule line (place 2 setting)) (unbound (stacked v) (setting_range catalogue.now (index setting)) (one_at (2 + index setting))) }
     {
-        match place(setting, 2) {
-            Some(k) => Ok(TypedNumber::unbound(catalogue.settings[k], Amounts::one_at(2 + k))),
-            None => Err(RuleFault::OutOfScope { line }),
-        }
+        let k = place(setting, 2).ok_or(RuleFault::OutOfScope { line })?;
+        Ok(TypedNumber::unbound(catalogue.settings[k], Amounts::one_at(2 + k)))
     }
 
     // A variable in scope, 0 the innermost.
     pub fn of_variable(scope: &Variables, at: i64, line: usize) -> Result<TypedNumber, RuleFault>
-        ensures { told (number_shown (spare scope.now)) result ≡ settle (scope_rule line (place (length (in_scope scope.now)) at)) (variable (in_scope scope.now) (index at)) }
+        ensures { told (number_shown (spare scope.now)) result ≡ settle (scope_rule line (place (length (stacked scope.now)) at)) (variable (stacked scope.now) (index at)) }
     {
-        match place(at, scope.count()) {
-            Some(i) => Ok(TypedNumber {
-                range: scope.range(i),
-                inputs: Amounts::NONE,
-                vars: Weights::one_at(i, scope),
-            }),
-            None => Err(RuleFault::OutOfScope { line }),
-        }
+        let i = place(at, scope.len()).ok_or(RuleFault::OutOfScope { line })?;
+        Ok(TypedNumber {
+            range: scope.as_slice()[i],
+            inputs: Amounts::NONE,
+            vars: Weights::one_at(i, scope),
+        })
     }
 
     // How many rows a bag has.
     pub fn of_count(bag: &TypedBag) -> TypedNumber
         requires { bag.now.shape.limit ≤ most_rows }
-        ensures { (v : Variables) → number_shown (spare v) result ≡ unbound (in_scope v) (counts bag.now.shape.limit) bag.now.inputs }
+        ensures { (v : Stack Range max_depth) → number_shown (spare v) result ≡ unbound (stacked v) (counts bag.now.shape.limit) bag.now.inputs }
     {
         TypedNumber::unbound(counts(bag.shape.limit), bag.inputs)
     }
@@ -77,7 +75,7 @@ impl TypedNumber {
         requires low { unsigned_abs low ≤ literal_bound }
         requires high { unsigned_abs high ≤ literal_bound }
         requires small { at_most sensitivity_bound bag.now.inputs ≡ true }
-        ensures { (v : Variables) → told (number_shown (spare v)) result ≡ settle (scope_rule line (int_le low high)) (unbound (in_scope v) (totals bag.now.shape.limit low high) (multiplied (max (unsigned_abs low) (unsigned_abs high)) bag.now.inputs)) }
+        ensures { (v : Stack Range max_depth) → told (number_shown (spare v)) result ≡ settle (scope_rule line (int_le low high)) (unbound (stacked v) (totals bag.now.shape.limit low high) (multiplied (max (unsigned_abs low) (unsigned_abs high)) bag.now.inputs)) }
     {
         if low > high {
             return Err(RuleFault::OutOfScope { line });

@@ -6,7 +6,8 @@ ghost use Rattle.rules.specs.Ranges.{differences, greater, lesser, sums};
 ghost use Rattle.rules.specs.Typing.{both, cut, multiple, named, number_rule, scope_rule, sensitivity_bound, settle};
 ghost use Rattle.trees.specs.Size.{literal_bound};
 ghost use Rattle.types.specs.Faults.{rule_refusal, told};
-ghost use Rattle.types.specs.Shown.{NumberGood, number_shown, spare};
+ghost use Rattle.stacks.specs.Stack.{spare};
+ghost use Rattle.types.specs.Shown.{NumberGood, number_shown};
 
 use super::TypedNumber;
 use crate::fault::RuleFault;

@@ -3,7 +3,10 @@ ghost use Rattle.std.specs.Prelude.{◌≡◌, ◌-◌, ◌<◌, ◌≤◌, true
 ghost use Rattle.rules.specs.Amounts.{all_added, all_at_most, all_times};
 ghost use Rattle.rules.specs.Typing.{sensitivity_bound};
 ghost use Rattle.sources.specs.Indexed.{listed};
-ghost use Rattle.types.specs.Shown.{in_scope, spare};
+ghost use Rattle.sources.specs.declared.shapes.Range.{Range};
+ghost use Rattle.trees.specs.Size.{max_depth};
+ghost use Rattle.stacks.specs.declared.stack.Stack.{Stack};
+ghost use Rattle.stacks.specs.Stack.{spare, stacked};
 
 use super::Weights;
 use crate::limits::MAX_VARS;
@@ -11,7 +14,7 @@ use crate::variables::Variables;
 
 impl Weights {
     pub(crate) fn none() -> Weights
-        ensures { (v : Variables) → drop (spare v) result.values ≡ replicate (length (in_scope v)) 0 }
+        ensures { (v : Stack Range max_depth) → drop (spare v) result.values ≡ replicate (length (stacked v)) 0 }
     {
         Weights {
             values: [0; MAX_VARS],
@@ -20,11 +23,11 @@ impl Weights {
 
     // 1 at a variable, 0 the innermost.
     pub(crate) fn one_at(index: usize, scope: &Variables) -> Weights
-        requires { index < length (in_scope scope.now) }
-        ensures { drop (spare scope.now) result.values ≡ listed (λ v. (if nat_eq v index then 1 else 0)) (length (in_scope scope.now)) }
+        requires { index < length (stacked scope.now) }
+        ensures { drop (spare scope.now) result.values ≡ listed (λ v. (if nat_eq v index then 1 else 0)) (length (stacked scope.now)) }
     {
         let mut values = [0; MAX_VARS];
-        values[scope.first() + index] = 1;
+        values[scope.spare() + index] = 1;
         Weights { values }
     }
 
@@ -53,7 +56,7 @@ impl Weights {
         ensures value { result ≡ slice_index (drop (spare scope.now - 1) self.now.values) 0 }
         ensures small { result ≤ sensitivity_bound }
     {
-        self.values[scope.first() - 1]
+        self.values[scope.spare() - 1]
     }
 
     // The body's own at the outer variables, and those of what the inner variable stands for, as often as the body uses it.
@@ -70,7 +73,7 @@ impl Weights {
     pub(crate) fn are_at_most(&self, bound: u64, scope: &Variables) -> bool
         ensures { result ≡ all_at_most bound (drop (spare scope.now) self.now.values) }
     {
-        for i in scope.first()..MAX_VARS {
+        for i in scope.spare()..MAX_VARS {
             if self.values[i] > bound {
                 return false;
             }
@@ -86,7 +89,7 @@ impl Weights {
         ensures { drop (spare scope.now) result.values ≡ all_added (drop (spare scope.now) self.now.values) (all_times factor (drop (spare scope.now) other.now.values)) }
     {
         let mut values = [0; MAX_VARS];
-        for i in (scope.first()..MAX_VARS).rev() {
+        for i in (scope.spare()..MAX_VARS).rev() {
             values[i] = self.values[i] + factor * other.values[i];
         }
         Weights { values }

@@ -1,7 +1,7 @@
 use Rattle.std.proofs.Common.{◌≡◌, ◌-◌, [], length, ap, ◌∙◌, arith, w64, rules}
 use Rattle.forms.proofs.Parts.{for_all, numbers, reached}
 use Rattle.forms.specs.Calm.{inputs}
-use Rattle.forms.specs.Scope.{in_scope}
+use Rattle.stacks.specs.Stack.{stacked}
 use Rattle.forms.specs.Table.{NumberTree}
 use Rattle.rules.specs.Sound.{inputs_of}
 use Rattle.std.proofs.lemmas.Int.{to_z-of_z}
@@ -34,7 +34,7 @@ number-requires g c =
     record {
       few = c.requires.few;
       spare = omega (arith, c.new.ensures.spare, c.requires.few);
-      ready = (sources_of p, t, ready es p t h (c.rules_keep_values_in_range.ensures.keep h.catalogue p h.fits) c.totals_of-totals.result plant.settings (in_scope c.new.result) (two_settings plant.settings two) c.new.ensures.values c.totals_of-totals.ensures);
+      ready = (sources_of p, t, ready es p t h (c.rules_keep_values_in_range.ensures.keep h.catalogue p h.fits) c.totals_of-totals.result plant.settings (stacked c.new.result) (two_settings plant.settings two) c.new.ensures.items c.totals_of-totals.ensures);
     }
 
 pub returns : goal.returns
@@ -45,9 +45,9 @@ returns g c =
     let (t, h) = c.requires.typed in
     let two : length plant.settings ≡ 2 = search rules in
     let r = c.number.result in
-    let value = c.number.ensures (sources_of p) t (ready es p t h (c.rules_keep_values_in_range.ensures.keep h.catalogue p h.fits) c.totals_of-totals.result plant.settings (in_scope c.new.result) (two_settings plant.settings two) c.new.ensures.values c.totals_of-totals.ensures) in
+    let value = c.number.ensures (sources_of p) t (ready es p t h (c.rules_keep_values_in_range.ensures.keep h.catalogue p h.fits) c.totals_of-totals.result plant.settings (stacked c.new.result) (two_settings plant.settings two) c.new.ensures.items c.totals_of-totals.ensures) in
     for_all numbers (λ _. Unit {0}) (λ (u : NumberTree). number u (inputs_of p) []) es (length es - 1) (t, h.spells.is, tt) _
     (to_z-of_z w64 r (record { sfits = c.number.type_inv })
     ∙ value
-    ∙ ap (λ xs. number t (inputs (sources_of p) xs) (in_scope c.new.result)) (two_settings plant.settings two)
-    ∙ ap (number t (inputs_of p)) c.new.ensures.values)
+    ∙ ap (λ xs. number t (inputs (sources_of p) xs) (stacked c.new.result)) (two_settings plant.settings two)
+    ∙ ap (number t (inputs_of p)) c.new.ensures.items)

@@ -14,14 +14,13 @@ calm = (omega arith, ((omega arith, ((0, refl, omega arith), omega arith), ((1, 
 pub number-requires : goal.number-requires
 number-requires g c =
     record {
-      few = omega arith;
       spare = omega (arith, c.new.ensures.spare);
       ready = (
         [],
         tree,
         record {
           is = unfold part_at parts parts_from in refl;
-          calm = subst (λ vars. CalmNumber tree (inputs [] (pos 1 ∷ pos 4 ∷ [])) vars) (sym c.new.ensures.values) calm;
+          calm = subst (λ vars. CalmNumber tree (inputs [] (pos 1 ∷ pos 4 ∷ [])) vars) (sym c.new.ensures.items) calm;
           right = λ q n lt e k. absurd (none_totalled _ q n e k (unfold parts parts_from in refl));
         },
       );

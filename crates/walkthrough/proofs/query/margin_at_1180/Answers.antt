@@ -27,10 +27,10 @@ number-requires c =
     record {
       few = omega arith;
       spare = omega (arith, c.new.ensures.spare);
-      ready = ([], margin, ready _ _ _ (unfold part_at parts parts_from in refl) c.new.ensures.values (unfold parts parts_from in refl));
+      ready = ([], margin, ready _ _ _ (unfold part_at parts parts_from in refl) c.new.ensures.items (unfold parts parts_from in refl));
     }
 
 pub returns : goal.returns
 returns c =
     to_z-of_z w64 c.number.result (record { sfits = c.number.type_inv })
-    ∙ c.number.ensures [] margin (ready _ _ _ (unfold part_at parts parts_from in refl) c.new.ensures.values (unfold parts parts_from in refl))
+    ∙ c.number.ensures [] margin (ready _ _ _ (unfold part_at parts parts_from in refl) c.new.ensures.items (unfold parts parts_from in refl))

@@ -27,14 +27,14 @@ returns-in_err-typed c =
     let p = err_from_is_err_and c.from_residual-in_err-typed.result c.from_residual-in_err-typed.ensures.1 in
     let w = whole c.args.text.now (held c.read.new.table) c.entries-entries.result.now _ c.in_ok-read.ensures.law c.in_ok-read.ensures.lines c.requires.some c.entries-entries.ensures.value in
     let d = c.in_err-typed.ensures 1 0 w.tree (at_start c.args.text.now c.entries-entries.result.now c.new.result w c.new.ensures.spare) in
-    rw (p.1, p.2) (w.tree, w.spells, ap (λ (rs : List Range). number_typed 1 c.args.catalogue.now rs w.tree) (sym c.new.ensures.ranges) ∙ d)
+    rw (p.1, p.2) (w.tree, w.spells, ap (λ (rs : List Range). number_typed 1 c.args.catalogue.now rs w.tree) (sym c.new.ensures.items) ∙ d)
 
 pub returns : goal.returns
 returns c =
     let k = c.args.catalogue.now in
     let w = whole c.args.text.now (held c.read.new.table) c.entries-entries.result.now _ c.in_ok-read.ensures.law c.in_ok-read.ensures.lines c.requires.some c.entries-entries.ensures.value in
     let d = c.in_ok-typed.ensures 1 0 w.tree (at_start c.args.text.now c.entries-entries.result.now c.new.result w c.new.ensures.spare) in
-    let empty = c.new.ensures.ranges in
+    let empty = c.new.ensures.items in
     record {
       tree = w.tree;
       spells = w.spells;

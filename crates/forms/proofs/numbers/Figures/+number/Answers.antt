@@ -7,7 +7,7 @@ use Rattle.forms.specs.declared.form.Entry.{Entry}
 use Rattle.forms.specs.declared.form.Form.{Form}
 use Rattle.forms.specs.declared.form.Form.TheVariants.{Count, Sum}
 use Rattle.forms.specs.Calm.{CalmNumber, inputs}
-use Rattle.forms.specs.Scope.{in_scope}
+use Rattle.stacks.specs.Stack.{stacked}
 use Rattle.forms.specs.Table.{NumberTree, Stands, build, nth, of_one, of_two, part_at, parts}
 use Rattle.forms.specs.Table.Part.{a_number}
 use Rattle.forms.specs.Totals.{Ready, totalled}
@@ -53,123 +53,123 @@ form_at-requires t c =
 pub number-requires : goal.number-requires
 number-requires t c =
     let i = pair add c.requires.ready.2 c.in-Add.left c.in-Add.right c.in-Add.ensures.stands in
-    (omega (arith, i.first.below, c.decreases), (c.requires.few, (omega (arith, i.first.below, c.decreases), (c.requires.ready.0, i.x, part c.requires.ready.2 i.first (in_scope c.args.scope.now) i.known.1))))
+    (omega (arith, i.first.below, c.decreases), (omega (arith, i.first.below, c.decreases), (c.requires.ready.0, i.x, part c.requires.ready.2 i.first (stacked c.args.scope.now) i.known.1)))
 
 pub number-requires-in-Add : goal.number-requires-in-Add
 number-requires-in-Add t c =
     let i = pair add c.requires.ready.2 c.in-Add.left c.in-Add.right c.in-Add.ensures.stands in
-    (omega (arith, i.second.below, c.decreases), (c.requires.few, (omega (arith, i.second.below, c.decreases), (c.requires.ready.0, i.y, part c.requires.ready.2 i.second (in_scope c.args.scope.now) i.known.2))))
+    (omega (arith, i.second.below, c.decreases), (omega (arith, i.second.below, c.decreases), (c.requires.ready.0, i.y, part c.requires.ready.2 i.second (stacked c.args.scope.now) i.known.2)))
 
 pub overflow_add-result : goal.overflow_add-result
 overflow_add-result t c =
     let i = pair add c.requires.ready.2 c.in-Add.left c.in-Add.right c.in-Add.ensures.stands in
-    op_fits ◌+ℤ◌ _ c.number.result c.number-in-Add.result _ _ (omega arith) (search rules) (search rules) (c.number.ensures c.requires.ready.0 i.x (part c.requires.ready.2 i.first (in_scope c.args.scope.now) i.known.1)) (c.number-in-Add.ensures c.requires.ready.0 i.y (part c.requires.ready.2 i.second (in_scope c.args.scope.now) i.known.2)) i.known.0
+    op_fits ◌+ℤ◌ _ c.number.result c.number-in-Add.result _ _ (omega arith) (search rules) (search rules) (c.number.ensures c.requires.ready.0 i.x (part c.requires.ready.2 i.first (stacked c.args.scope.now) i.known.1)) (c.number-in-Add.ensures c.requires.ready.0 i.y (part c.requires.ready.2 i.second (stacked c.args.scope.now) i.known.2)) i.known.0
 
 pub returns-in-Add : goal.returns-in-Add
 returns-in-Add t c =
     λ ss n r.
     let i = pair add r c.in-Add.left c.in-Add.right c.in-Add.ensures.stands in
-    valued r (add i.x i.y) i.is _ (op_is ◌+ℤ◌ _ c.number.result c.number-in-Add.result _ _ (omega arith) (search rules) (search rules) (c.number.ensures ss i.x (part r i.first (in_scope c.args.scope.now) i.known.1)) (c.number-in-Add.ensures ss i.y (part r i.second (in_scope c.args.scope.now) i.known.2)) i.known.0)
+    valued r (add i.x i.y) i.is _ (op_is ◌+ℤ◌ _ c.number.result c.number-in-Add.result _ _ (omega arith) (search rules) (search rules) (c.number.ensures ss i.x (part r i.first (stacked c.args.scope.now) i.known.1)) (c.number-in-Add.ensures ss i.y (part r i.second (stacked c.args.scope.now) i.known.2)) i.known.0)
 
 pub number-requires-in-Sub : goal.number-requires-in-Sub
 number-requires-in-Sub t c =
     let i = pair sub c.requires.ready.2 c.in-Sub.left c.in-Sub.right c.in-Sub.ensures.stands in
-    (omega (arith, i.first.below, c.decreases), (c.requires.few, (omega (arith, i.first.below, c.decreases), (c.requires.ready.0, i.x, part c.requires.ready.2 i.first (in_scope c.args.scope.now) i.known.1))))
+    (omega (arith, i.first.below, c.decreases), (omega (arith, i.first.below, c.decreases), (c.requires.ready.0, i.x, part c.requires.ready.2 i.first (stacked c.args.scope.now) i.known.1)))
 
 pub number-requires-in-Sub-2 : goal.number-requires-in-Sub-2
 number-requires-in-Sub-2 t c =
     let i = pair sub c.requires.ready.2 c.in-Sub.left c.in-Sub.right c.in-Sub.ensures.stands in
-    (omega (arith, i.second.below, c.decreases), (c.requires.few, (omega (arith, i.second.below, c.decreases), (c.requires.ready.0, i.y, part c.requires.ready.2 i.second (in_scope c.args.scope.now) i.known.2))))
+    (omega (arith, i.second.below, c.decreases), (omega (arith, i.second.below, c.decreases), (c.requires.ready.0, i.y, part c.requires.ready.2 i.second (stacked c.args.scope.now) i.known.2)))
 
 pub overflow_sub-result : goal.overflow_sub-result
 overflow_sub-result t c =
     let i = pair sub c.requires.ready.2 c.in-Sub.left c.in-Sub.right c.in-Sub.ensures.stands in
-    op_fits ◌-ℤ◌ _ c.number-in-Sub.result c.number-in-Sub-2.result _ _ (omega arith) (search rules) (search rules) (c.number-in-Sub.ensures c.requires.ready.0 i.x (part c.requires.ready.2 i.first (in_scope c.args.scope.now) i.known.1)) (c.number-in-Sub-2.ensures c.requires.ready.0 i.y (part c.requires.ready.2 i.second (in_scope c.args.scope.now) i.known.2)) i.known.0
+    op_fits ◌-ℤ◌ _ c.number-in-Sub.result c.number-in-Sub-2.result _ _ (omega arith) (search rules) (search rules) (c.number-in-Sub.ensures c.requires.ready.0 i.x (part c.requires.ready.2 i.first (stacked c.args.scope.now) i.known.1)) (c.number-in-Sub-2.ensures c.requires.ready.0 i.y (part c.requires.ready.2 i.second (stacked c.args.scope.now) i.known.2)) i.known.0
 
 pub returns-in-Sub : goal.returns-in-Sub
 returns-in-Sub t c =
     λ ss n r.
     let i = pair sub r c.in-Sub.left c.in-Sub.right c.in-Sub.ensures.stands in
-    valued r (sub i.x i.y) i.is _ (op_is ◌-ℤ◌ _ c.number-in-Sub.result c.number-in-Sub-2.result _ _ (omega arith) (search rules) (search rules) (c.number-in-Sub.ensures ss i.x (part r i.first (in_scope c.args.scope.now) i.known.1)) (c.number-in-Sub-2.ensures ss i.y (part r i.second (in_scope c.args.scope.now) i.known.2)) i.known.0)
+    valued r (sub i.x i.y) i.is _ (op_is ◌-ℤ◌ _ c.number-in-Sub.result c.number-in-Sub-2.result _ _ (omega arith) (search rules) (search rules) (c.number-in-Sub.ensures ss i.x (part r i.first (stacked c.args.scope.now) i.known.1)) (c.number-in-Sub-2.ensures ss i.y (part r i.second (stacked c.args.scope.now) i.known.2)) i.known.0)
 
 pub number-requires-in-Least : goal.number-requires-in-Least
 number-requires-in-Least t c =
     let i = pair least c.requires.ready.2 c.in-Least.left c.in-Least.right c.in-Least.ensures.stands in
-    (omega (arith, i.first.below, c.decreases), (c.requires.few, (omega (arith, i.first.below, c.decreases), (c.requires.ready.0, i.x, part c.requires.ready.2 i.first (in_scope c.args.scope.now) i.known.0))))
+    (omega (arith, i.first.below, c.decreases), (omega (arith, i.first.below, c.decreases), (c.requires.ready.0, i.x, part c.requires.ready.2 i.first (stacked c.args.scope.now) i.known.0)))
 
 pub number-requires-in-Least-2 : goal.number-requires-in-Least-2
 number-requires-in-Least-2 t c =
     let i = pair least c.requires.ready.2 c.in-Least.left c.in-Least.right c.in-Least.ensures.stands in
-    (omega (arith, i.second.below, c.decreases), (c.requires.few, (omega (arith, i.second.below, c.decreases), (c.requires.ready.0, i.y, part c.requires.ready.2 i.second (in_scope c.args.scope.now) i.known.1))))
+    (omega (arith, i.second.below, c.decreases), (omega (arith, i.second.below, c.decreases), (c.requires.ready.0, i.y, part c.requires.ready.2 i.second (stacked c.args.scope.now) i.known.1)))
 
 pub returns-in-Least : goal.returns-in-Least
 returns-in-Least t c =
     λ ss n r.
     let i = pair least r c.in-Least.left c.in-Least.right c.in-Least.ensures.stands in
-    valued r (least i.x i.y) i.is _ (back c.min.result _ (search rules) (c.min.ensures.value ∙ ap₂ int_min (back c.number-in-Least.result _ (search rules) (c.number-in-Least.ensures ss i.x (part r i.first (in_scope c.args.scope.now) i.known.0))) (back c.number-in-Least-2.result _ (search rules) (c.number-in-Least-2.ensures ss i.y (part r i.second (in_scope c.args.scope.now) i.known.1)))))
+    valued r (least i.x i.y) i.is _ (back c.min.result _ (search rules) (c.min.ensures.value ∙ ap₂ int_min (back c.number-in-Least.result _ (search rules) (c.number-in-Least.ensures ss i.x (part r i.first (stacked c.args.scope.now) i.known.0))) (back c.number-in-Least-2.result _ (search rules) (c.number-in-Least-2.ensures ss i.y (part r i.second (stacked c.args.scope.now) i.known.1)))))
 
 pub number-requires-in-Most : goal.number-requires-in-Most
 number-requires-in-Most t c =
     let i = pair most c.requires.ready.2 c.in-Most.left c.in-Most.right c.in-Most.ensures.stands in
-    (omega (arith, i.first.below, c.decreases), (c.requires.few, (omega (arith, i.first.below, c.decreases), (c.requires.ready.0, i.x, part c.requires.ready.2 i.first (in_scope c.args.scope.now) i.known.0))))
+    (omega (arith, i.first.below, c.decreases), (omega (arith, i.first.below, c.decreases), (c.requires.ready.0, i.x, part c.requires.ready.2 i.first (stacked c.args.scope.now) i.known.0)))
 
 pub number-requires-in-Most-2 : goal.number-requires-in-Most-2
 number-requires-in-Most-2 t c =
     let i = pair most c.requires.ready.2 c.in-Most.left c.in-Most.right c.in-Most.ensures.stands in
-    (omega (arith, i.second.below, c.decreases), (c.requires.few, (omega (arith, i.second.below, c.decreases), (c.requires.ready.0, i.y, part c.requires.ready.2 i.second (in_scope c.args.scope.now) i.known.1))))
+    (omega (arith, i.second.below, c.decreases), (omega (arith, i.second.below, c.decreases), (c.requires.ready.0, i.y, part c.requires.ready.2 i.second (stacked c.args.scope.now) i.known.1)))
 
 pub returns-in-Most : goal.returns-in-Most
 returns-in-Most t c =
     λ ss n r.
     let i = pair most r c.in-Most.left c.in-Most.right c.in-Most.ensures.stands in
-    valued r (most i.x i.y) i.is _ (back c.max.result _ (search rules) (c.max.ensures.value ∙ ap₂ int_max (back c.number-in-Most.result _ (search rules) (c.number-in-Most.ensures ss i.x (part r i.first (in_scope c.args.scope.now) i.known.0))) (back c.number-in-Most-2.result _ (search rules) (c.number-in-Most-2.ensures ss i.y (part r i.second (in_scope c.args.scope.now) i.known.1)))))
+    valued r (most i.x i.y) i.is _ (back c.max.result _ (search rules) (c.max.ensures.value ∙ ap₂ int_max (back c.number-in-Most.result _ (search rules) (c.number-in-Most.ensures ss i.x (part r i.first (stacked c.args.scope.now) i.known.0))) (back c.number-in-Most-2.result _ (search rules) (c.number-in-Most-2.ensures ss i.y (part r i.second (stacked c.args.scope.now) i.known.1)))))
 
 pub number-requires-in-Scale : goal.number-requires-in-Scale
 number-requires-in-Scale t c =
     let i = single (scale c.in-Scale.factor) c.requires.ready.2 c.in-Scale.number c.in-Scale.ensures.stands in
-    (omega (arith, i.first.below, c.decreases), (c.requires.few, (omega (arith, i.first.below, c.decreases), (c.requires.ready.0, i.x, part c.requires.ready.2 i.first (in_scope c.args.scope.now) i.known.1))))
+    (omega (arith, i.first.below, c.decreases), (omega (arith, i.first.below, c.decreases), (c.requires.ready.0, i.x, part c.requires.ready.2 i.first (stacked c.args.scope.now) i.known.1)))
 
 pub overflow_mul-result : goal.overflow_mul-result
 overflow_mul-result t c =
     let i = single (scale c.in-Scale.factor) c.requires.ready.2 c.in-Scale.number c.in-Scale.ensures.stands in
-    op_fits ◌*ℤ◌ _ c.in-Scale.factor c.number-in-Scale.result c.in-Scale.factor _ (omega arith) (search rules) (search rules) refl (c.number-in-Scale.ensures c.requires.ready.0 i.x (part c.requires.ready.2 i.first (in_scope c.args.scope.now) i.known.1)) i.known.0
+    op_fits ◌*ℤ◌ _ c.in-Scale.factor c.number-in-Scale.result c.in-Scale.factor _ (omega arith) (search rules) (search rules) refl (c.number-in-Scale.ensures c.requires.ready.0 i.x (part c.requires.ready.2 i.first (stacked c.args.scope.now) i.known.1)) i.known.0
 
 pub returns-in-Scale : goal.returns-in-Scale
 returns-in-Scale t c =
     λ ss n r.
     let i = single (scale c.in-Scale.factor) r c.in-Scale.number c.in-Scale.ensures.stands in
-    valued r (scale c.in-Scale.factor i.x) i.is _ (op_is ◌*ℤ◌ _ c.in-Scale.factor c.number-in-Scale.result c.in-Scale.factor _ (omega arith) (search rules) (search rules) refl (c.number-in-Scale.ensures ss i.x (part r i.first (in_scope c.args.scope.now) i.known.1)) i.known.0)
+    valued r (scale c.in-Scale.factor i.x) i.is _ (op_is ◌*ℤ◌ _ c.in-Scale.factor c.number-in-Scale.result c.in-Scale.factor _ (omega arith) (search rules) (search rules) refl (c.number-in-Scale.ensures ss i.x (part r i.first (stacked c.args.scope.now) i.known.1)) i.known.0)
 
 pub number-requires-in-Clip : goal.number-requires-in-Clip
 number-requires-in-Clip t c =
     let i = single (clip c.in-Clip.low c.in-Clip.high) c.requires.ready.2 c.in-Clip.number c.in-Clip.ensures.stands in
-    (omega (arith, i.first.below, c.decreases), (c.requires.few, (omega (arith, i.first.below, c.decreases), (c.requires.ready.0, i.x, part c.requires.ready.2 i.first (in_scope c.args.scope.now) i.known))))
+    (omega (arith, i.first.below, c.decreases), (omega (arith, i.first.below, c.decreases), (c.requires.ready.0, i.x, part c.requires.ready.2 i.first (stacked c.args.scope.now) i.known)))
 
 pub returns-in-Clip : goal.returns-in-Clip
 returns-in-Clip t c =
     λ ss n r.
     let i = single (clip c.in-Clip.low c.in-Clip.high) r c.in-Clip.number c.in-Clip.ensures.stands in
-    valued r (clip c.in-Clip.low c.in-Clip.high i.x) i.is _ (back c.clip.result _ (search rules) (c.clip.ensures ∙ clip_is c.in-Clip.low c.in-Clip.high c.number-in-Clip.result _ (search rules) (search rules) (search rules) (c.number-in-Clip.ensures ss i.x (part r i.first (in_scope c.args.scope.now) i.known))))
+    valued r (clip c.in-Clip.low c.in-Clip.high i.x) i.is _ (back c.clip.result _ (search rules) (c.clip.ensures ∙ clip_is c.in-Clip.low c.in-Clip.high c.number-in-Clip.result _ (search rules) (search rules) (search rules) (c.number-in-Clip.ensures ss i.x (part r i.first (stacked c.args.scope.now) i.known))))
 
 pub number-value-requires : goal.number-value-requires
 number-value-requires t c =
     let i = pair let_in c.requires.ready.2 c.in-Let.bound c.in-Let.body c.in-Let.ensures.stands in
-    (omega (arith, i.first.below, c.decreases), (c.requires.few, (omega (arith, i.first.below, c.decreases), (c.requires.ready.0, i.x, part c.requires.ready.2 i.first (in_scope c.args.scope.now) i.known.0))))
+    (omega (arith, i.first.below, c.decreases), (omega (arith, i.first.below, c.decreases), (c.requires.ready.0, i.x, part c.requires.ready.2 i.first (stacked c.args.scope.now) i.known.0)))
 
 pub number-requires-in-Let : goal.number-requires-in-Let
 number-requires-in-Let t c =
     let i = pair let_in c.requires.ready.2 c.in-Let.bound c.in-Let.body c.in-Let.ensures.stands in
-    let grown : in_scope c.with.result ≡ number i.x (inputs c.requires.ready.0 c.args.self.now.settings.now) (in_scope c.args.scope.now) ∷ (in_scope c.args.scope.now) = c.with.ensures.values ∙ ap (λ v. v ∷ (in_scope c.args.scope.now)) (back c.number-value.result _ (search rules) (c.number-value.ensures c.requires.ready.0 i.x (part c.requires.ready.2 i.first (in_scope c.args.scope.now) i.known.0))) in
-    let calm : CalmNumber i.y (inputs c.requires.ready.0 c.args.self.now.settings.now) (in_scope c.with.result) = subst (λ vars. CalmNumber i.y (inputs c.requires.ready.0 c.args.self.now.settings.now) vars) (sym grown) i.known.1 in
-    (omega (arith, i.second.below, c.decreases), (c.requires.few, (omega (arith, i.second.below, c.with.ensures.spare, c.decreases), (c.requires.ready.0, i.y, part c.requires.ready.2 i.second (in_scope c.with.result) calm))))
+    let grown : stacked c.with.result ≡ number i.x (inputs c.requires.ready.0 c.args.self.now.settings.now) (stacked c.args.scope.now) ∷ (stacked c.args.scope.now) = c.with.ensures.items ∙ ap (λ v. v ∷ (stacked c.args.scope.now)) (back c.number-value.result _ (search rules) (c.number-value.ensures c.requires.ready.0 i.x (part c.requires.ready.2 i.first (stacked c.args.scope.now) i.known.0))) in
+    let calm : CalmNumber i.y (inputs c.requires.ready.0 c.args.self.now.settings.now) (stacked c.with.result) = subst (λ vars. CalmNumber i.y (inputs c.requires.ready.0 c.args.self.now.settings.now) vars) (sym grown) i.known.1 in
+    (omega (arith, i.second.below, c.decreases), (omega (arith, i.second.below, c.with.ensures.spare, c.decreases), (c.requires.ready.0, i.y, part c.requires.ready.2 i.second (stacked c.with.result) calm)))
 
 pub returns-in-Let : goal.returns-in-Let
 returns-in-Let t c =
     λ ss n r.
     let i = pair let_in r c.in-Let.bound c.in-Let.body c.in-Let.ensures.stands in
-    let grown : in_scope c.with.result ≡ number i.x (inputs ss c.args.self.now.settings.now) (in_scope c.args.scope.now) ∷ (in_scope c.args.scope.now) = c.with.ensures.values ∙ ap (λ v. v ∷ (in_scope c.args.scope.now)) (back c.number-value.result _ (search rules) (c.number-value.ensures ss i.x (part r i.first (in_scope c.args.scope.now) i.known.0))) in
-    let calm : CalmNumber i.y (inputs ss c.args.self.now.settings.now) (in_scope c.with.result) = subst (λ vars. CalmNumber i.y (inputs ss c.args.self.now.settings.now) vars) (sym grown) i.known.1 in
-    valued r (let_in i.x i.y) i.is _ (back c.number-in-Let.result _ (search rules) (c.number-in-Let.ensures ss i.y (part r i.second (in_scope c.with.result) calm)) ∙ ap (λ vars. number i.y (inputs ss c.args.self.now.settings.now) vars) grown)
+    let grown : stacked c.with.result ≡ number i.x (inputs ss c.args.self.now.settings.now) (stacked c.args.scope.now) ∷ (stacked c.args.scope.now) = c.with.ensures.items ∙ ap (λ v. v ∷ (stacked c.args.scope.now)) (back c.number-value.result _ (search rules) (c.number-value.ensures ss i.x (part r i.first (stacked c.args.scope.now) i.known.0))) in
+    let calm : CalmNumber i.y (inputs ss c.args.self.now.settings.now) (stacked c.with.result) = subst (λ vars. CalmNumber i.y (inputs ss c.args.self.now.settings.now) vars) (sym grown) i.known.1 in
+    valued r (let_in i.x i.y) i.is _ (back c.number-in-Let.result _ (search rules) (c.number-in-Let.ensures ss i.y (part r i.second (stacked c.with.result) calm)) ∙ ap (λ vars. number i.y (inputs ss c.args.self.now.settings.now) vars) grown)
 
 pub returns-in-Count : goal.returns-in-Count
 returns-in-Count t c =

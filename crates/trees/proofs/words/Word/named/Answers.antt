@@ -7,7 +7,7 @@ pub returns : goal.returns
 unfolding word_spelled
 returns c =
     record {
-      found = c.in_table.ensures;
-      exactly = subst (Names c.args.spelling.now) (sym c.in_table.ensures) (names c.args.spelling.now);
+      found = c.first_spelled.ensures;
+      exactly = subst (Names c.args.spelling.now) (sym c.first_spelled.ensures) (names c.args.spelling.now);
       apart = spelled_apart;
     }

@@ -4,7 +4,7 @@ use Rattle.rules.specs.Amounts.{times}
 use Rattle.rules.specs.Ranges.{totals}
 use Rattle.rules.specs.Typing.{unbound}
 use Rattle.std.proofs.lemmas.Int.{to_z-of_z}
-use Rattle.types.specs.Shown.{in_scope}
+use Rattle.stacks.specs.Stack.{stacked}
 use Rattle.types.proofs.number.TypedNumber.of_sum.Goals as goal
 
 pub returns : goal.returns
@@ -15,7 +15,7 @@ returns c = λ v.
     let ordered : le_z c.args.low c.args.high ≡ true = search rules in
     let same =
     c.unbound.ensures v
-    ∙ ap₂ (unbound (in_scope v))
+    ∙ ap₂ (unbound (stacked v))
     (c.totals.ensures ∙ ap₂ (totals bag.shape.limit) low high)
     (c.times.ensures ∙ ap (λ n. times n bag.inputs) (c.max-most.ensures ∙ ap₂ max (c.unsigned_abs.ensures.value ∙ ap nat_abs low) (c.unsigned_abs-2.ensures.value ∙ ap nat_abs high))) in
     rw ordered (ap Ok same)

@@ -1,6 +1,6 @@
 use Rattle.std.proofs.Common.{drop, ap, ◌∙◌}
 use Rattle.rules.specs.Amounts.{all_added}
-use Rattle.types.specs.Shown.{spare}
+use Rattle.stacks.specs.Stack.{spare}
 use Rattle.types.proofs.Sensitivities.{times_one}
 use Rattle.types.proofs.weights.Weights.added.Goals as goal
 

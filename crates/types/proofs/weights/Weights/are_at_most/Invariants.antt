@@ -1,6 +1,6 @@
 use Rattle.std.proofs.Common.{◌≡◌, drop}
 use Rattle.rules.specs.Amounts.{all_at_most}
-use Rattle.types.specs.Shown.{spare}
+use Rattle.stacks.specs.Stack.{spare}
 use Rattle.types.proofs.weights.Weights.are_at_most.Given as goal
 
 -- those that are left give the same answer as all

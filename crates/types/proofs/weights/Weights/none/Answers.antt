@@ -1,7 +1,7 @@
 use Rattle.std.proofs.Common.{replicate, sym, ap, ◌∙◌}
 use Rattle.std.proofs.lemmas.List.{drop-replicate}
 use Rattle.trees.specs.Size.{max_depth}
-use Rattle.types.specs.Shown.{spare}
+use Rattle.stacks.specs.Stack.{spare}
 use Rattle.types.proofs.Scopes.{length_scope}
 use Rattle.types.proofs.weights.Weights.none.Goals as goal
 

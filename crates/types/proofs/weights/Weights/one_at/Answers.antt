@@ -1,24 +1,24 @@
 use Rattle.std.proofs.Common.{ℕ, ◌+◌, cond, eqb, drop, set, replicate, sym, ap, ◌∙◌, arith}
 use Rattle.sources.specs.Indexed.{listed}
 use Rattle.trees.specs.Size.{max_depth}
-use Rattle.types.specs.Shown.{spare}
+use Rattle.stacks.specs.Stack.{spare}
 use Rattle.types.proofs.Scopes.{length_scope}
 use Rattle.types.proofs.Sensitivities.{drop_one}
 use Rattle.types.proofs.weights.Weights.one_at.Goals as goal
 
 pub overflow_add-values : goal.overflow_add-values
-overflow_add-values c = omega (arith, c.requires, length_scope c.args.scope.now, c.first.ensures)
+overflow_add-values c = omega (arith, c.requires, length_scope c.args.scope.now, c.spare.ensures)
 
-pub offset_bounds-values-first : goal.offset_bounds-values-first
-offset_bounds-values-first c = omega (arith, c.requires, length_scope c.args.scope.now, c.first.ensures)
+pub offset_bounds-values-spare : goal.offset_bounds-values-spare
+offset_bounds-values-spare c = omega (arith, c.requires, length_scope c.args.scope.now, c.spare.ensures)
 
-pub bounds-values-first : goal.bounds-values-first
-bounds-values-first c = omega (arith, c.requires, length_scope c.args.scope.now, c.first.ensures)
+pub bounds-values-spare : goal.bounds-values-spare
+bounds-values-spare c = omega (arith, c.requires, length_scope c.args.scope.now, c.spare.ensures)
 
 pub returns : goal.returns
 returns c =
     let v = c.args.scope.now in
     let i = c.args.index in
-    ap (λ f. drop (spare v) (set {A = ℕ} (replicate max_depth 0) (f + i) 1)) c.first.ensures
+    ap (λ f. drop (spare v) (set {A = ℕ} (replicate max_depth 0) (f + i) 1)) c.spare.ensures
     ∙ drop_one max_depth (spare v) i (omega (arith, c.requires, length_scope v))
     ∙ ap (listed (λ k. cond (eqb k i) 1 0)) (sym (length_scope v))

@@ -2,7 +2,7 @@ use Rattle.std.proofs.Common.{◌≡◌, ℕ, ◌*◌, List, length, drop, repli
 use Rattle.rules.specs.Amounts.{all_added, all_at_most, all_times}
 use Rattle.rules.specs.Typing.{sensitivity_bound}
 use Rattle.std.proofs.lemmas.List.{length-drop, length-map}
-use Rattle.types.specs.Shown.{in_scope, spare}
+use Rattle.stacks.specs.Stack.{spare, stacked}
 use Rattle.types.proofs.Scopes.{length_scope}
 use Rattle.types.proofs.Sensitivities.{zeros_added, zeros_at_most}
 use Rattle.types.proofs.weights.Weights.times.Goals as goal
@@ -15,7 +15,7 @@ with_times-requires c =
     let v = c.args.scope.now in
     record {
       factor = c.requires.factor;
-      own = ap (all_at_most sensitivity_bound) (c.none.ensures v) ∙ zeros_at_most sensitivity_bound (length (in_scope v));
+      own = ap (all_at_most sensitivity_bound) (c.none.ensures v) ∙ zeros_at_most sensitivity_bound (length (stacked v));
       small = c.requires.small;
     }
 
@@ -24,5 +24,5 @@ returns c =
     let v = c.args.scope.now in
     let ws = c.args.self.now in
     let rest = all_times c.args.factor (drop (spare v) ws.values) in
-    let as_long : length rest ≡ length (in_scope v) = omega (arith, length-map (drop (spare v) ws.values) (λ x. c.args.factor * x), length-drop (spare v) ws.values, ws.full, length_scope v) in
-    times_is (length (in_scope v)) _ rest _ (c.none.ensures v) as_long c.with_times.ensures
+    let as_long : length rest ≡ length (stacked v) = omega (arith, length-map (drop (spare v) ws.values) (λ x. c.args.factor * x), length-drop (spare v) ws.values, ws.full, length_scope v) in
+    times_is (length (stacked v)) _ rest _ (c.none.ensures v) as_long c.with_times.ensures

@@ -3,7 +3,7 @@ use Rattle.rules.specs.Amounts.{all_added, all_at_most, all_times}
 use Rattle.rules.specs.Typing.{sensitivity_bound}
 use Rattle.std.proofs.lemmas.List.{drop-drop}
 use Rattle.std.proofs.lemmas.Bool.{and_parts}
-use Rattle.types.specs.Shown.{spare}
+use Rattle.stacks.specs.Stack.{spare}
 use Rattle.types.proofs.Sensitivities.{at_most_more}
 use Rattle.types.proofs.weights.Weights.unfolded.Goals as goal
 

@@ -4,7 +4,7 @@ use Rattle.rules.specs.Typing.{sensitivity_bound}
 use Rattle.std.proofs.lemmas.Nat.{mul-le}
 use Rattle.std.proofs.lemmas.List.{drop_all}
 use Rattle.trees.specs.Size.{max_depth}
-use Rattle.types.specs.Shown.{spare}
+use Rattle.stacks.specs.Stack.{spare}
 use Rattle.types.proofs.Sensitivities.{at_most_from, with_times_more}
 use Rattle.types.proofs.weights.Weights.with_times.Goals as goal
 
@@ -16,7 +16,7 @@ loop-i-init c =
 small : (c : goal.After-values-in-loop-i-1) → c.args.factor * get_or c.args.other.now.values (c.loop-i.i - 1) 0 ≤ sensitivity_bound * sensitivity_bound
 small c =
     let ys = c.args.other.now in
-    mul-le c.args.factor (get_or ys.values (c.loop-i.i - 1) 0) sensitivity_bound sensitivity_bound c.requires.factor (at_most_from sensitivity_bound ys.values (spare c.args.scope.now) (c.loop-i.i - 1) c.requires.small (omega (arith, c.loop-i-test.true, c.first-i-start.ensures)) (omega (arith, ys.full, c.loop-i-test.true, c.loop-i.auto.i)))
+    mul-le c.args.factor (get_or ys.values (c.loop-i.i - 1) 0) sensitivity_bound sensitivity_bound c.requires.factor (at_most_from sensitivity_bound ys.values (spare c.args.scope.now) (c.loop-i.i - 1) c.requires.small (omega (arith, c.loop-i-test.true, c.spare-i-start.ensures)) (omega (arith, ys.full, c.loop-i-test.true, c.loop-i.auto.i)))
 
 pub overflow_mul-values : goal.overflow_mul-values
 overflow_mul-values c = omega (arith, small c)
@@ -24,19 +24,19 @@ overflow_mul-values c = omega (arith, small c)
 pub overflow_add-values : goal.overflow_add-values
 overflow_add-values c =
     let xs = c.args.self.now in
-    omega (arith, small c, at_most_from sensitivity_bound xs.values (spare c.args.scope.now) (c.loop-i.i - 1) c.requires.own (omega (arith, c.loop-i-test.true, c.first-i-start.ensures)) (omega (arith, xs.full, c.loop-i-test.true, c.loop-i.auto.i)))
+    omega (arith, small c, at_most_from sensitivity_bound xs.values (spare c.args.scope.now) (c.loop-i.i - 1) c.requires.own (omega (arith, c.loop-i-test.true, c.spare-i-start.ensures)) (omega (arith, xs.full, c.loop-i-test.true, c.loop-i.auto.i)))
 
 pub loop-i-preserved : goal.loop-i-preserved
 loop-i-preserved c =
     let xs = c.args.self.now in
     let ys = c.args.other.now in
     let i = c.loop-i.i in
-    let more = with_times_more c.args.factor xs.values ys.values c.loop-i.values max_depth (i - 1) i _ xs.full ys.full (omega (arith, c.loop-i-test.true, c.first-i-start.ensures)) c.loop-i.auto.i refl (c.loop-i.invariant.1, c.loop-i.invariant.2) in
-    (omega (arith, c.loop-i-test.true, c.first-i-start.ensures), more.0, more.1)
+    let more = with_times_more c.args.factor xs.values ys.values c.loop-i.values max_depth (i - 1) i _ xs.full ys.full (omega (arith, c.loop-i-test.true, c.spare-i-start.ensures)) c.loop-i.auto.i refl (c.loop-i.invariant.1, c.loop-i.invariant.2) in
+    (omega (arith, c.loop-i-test.true, c.spare-i-start.ensures), more.0, more.1)
 
 pub returns : goal.returns
 returns c =
     let xs = c.args.self.now.values in
     let ys = c.args.other.now.values in
-    let whole : c.loop-i.i ≡ spare c.args.scope.now = omega (arith, c.loop-i.invariant.0, c.loop-i-test.false, c.first-i-start.ensures) in
+    let whole : c.loop-i.i ≡ spare c.args.scope.now = omega (arith, c.loop-i.invariant.0, c.loop-i-test.false, c.spare-i-start.ensures) in
     subst (λ k. drop k c.loop-i.values ≡ all_added (drop k xs) (all_times c.args.factor (drop k ys))) whole c.loop-i.invariant.2

@@ -1,7 +1,7 @@
 use Rattle.std.proofs.Common.{◌≡◌, ◌≤◌, length, drop}
 use Rattle.rules.specs.Amounts.{all_added, all_times}
 use Rattle.trees.specs.Size.{max_depth}
-use Rattle.types.specs.Shown.{spare}
+use Rattle.stacks.specs.Stack.{spare}
 use Rattle.types.proofs.weights.Weights.with_times.Given as goal
 
 abbrev pub invariant-loop-i : goal.invariant-loop-i

@@ -1,0 +1,22 @@
+// A stack of at most N items, in an array that is filled from its end.
+ghost use Rattle.std.specs.Prelude.{◌≡◌, ◌≤◌, length};
+
+use std::alloc::AllocError;
+
+mod calls;
+
+// The innermost item stands at `first`, the outermost last.
+pub struct Stack<T, const N: usize> {
+    items: [T; N],
+    first: usize,
+    ghost full: { length items ≡ N },
+    ghost within: { first ≤ N },
+}
+
+impl<T: Copy, const N: usize> Copy for Stack<T, N> {}
+
+impl<T: Copy, const N: usize> Clone for Stack<T, N> {
+    fn clone(&self) -> Result<Stack<T, N>, AllocError> {
+        Ok(*self)
+    }
+}
