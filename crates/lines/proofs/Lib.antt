@@ -1,6 +1,3 @@
-pub mod Fields
-pub mod Numerals
-pub mod Pieces
 pub mod Readback
 pub mod Spelled
 pub mod Splits

@@ -1,10 +1,11 @@
 -- A line in its written form is read.
-use Rattle.std.proofs.Common.{◌≡◌, ℕ, suc, ◌+◌, ◌%◌, ◌^◌, ◌<◌, ◌≤◌, Bool, true, false, not, ◌||◌, eqb, leb, List, [], ◌∷◌, ◌++◌, map, length, get_or, take, ℤ, pos, negsuc, nat_abs, Some, None, Ok, Err, decimal, Option, Result, sym, refl, ap, ◌∙◌, subst, ap₂, append-nil, add-one, arith}
+use Rattle.std.proofs.Common.{◌≡◌, ℕ, suc, ◌+◌, ◌%◌, ◌^◌, ◌<◌, ◌≤◌, Bool, true, false, not, eqb, leb, List, [], ◌∷◌, ◌++◌, map, length, get_or, take, ℤ, pos, negsuc, nat_abs, Some, None, Ok, Err, decimal, Option, Result, sym, refl, ap, ◌∙◌, subst, ap₂, append-nil, add-one, one-add, arith}
 use Rattle.std.proofs.lemmas.Fmt.{decimal_by_steps, decimal_nonempty}
 use Rattle.std.proofs.ByRecursion.{All-append, All-push, All-weaker}
 use Rattle.std.proofs.lemmas.List.{take_at, drop_at, length-map}
-use Rattle.std.proofs.lemmas.Bool.{cond-true, cond-false, eq-eqb, ne_eqb, le-leb, leb-true, and_from, or_from}
-use Rattle.std.specs.List.{AllByRecursion}
+use Rattle.std.proofs.lemmas.Bool.Decides.{nat_tests}
+use Rattle.std.proofs.lemmas.Bool.{cond-true, cond-false, eq-eqb, ne_eqb, leb-true, and_from}
+use Rattle.std.specs.List.{onto_first, prefix_len, AllByRecursion}
 use Rattle.std.specs.Int.{IsInRange}
 use Rattle.std.specs.Fmt.{signed_decimal}
 use Rattle.trees.proofs.Spelling.{each_word, found, letters}
@@ -13,8 +14,7 @@ use Rattle.trees.specs.Size.{literal_bound}
 use Rattle.trees.specs.Words.{entry}
 use Rattle.trees.specs.Written.{Line, line_bytes}
 use Rattle.trees.specs.Written.Line.{opening, leaf, closing}
-use Rattle.lines.proofs.Spelled.{spells}
-use Rattle.lines.proofs.Splits.{formed}
+use Rattle.lines.proofs.Spelled.{spelled_of}
 use Rattle.lines.proofs.Told.{spaced, line_up, two_numbers, written_by}
 use Rattle.lines.specs.declared.fault.LineFault.{LineFault}
 use Rattle.lines.specs.declared.fault.LineFault.TheVariants.{NotAHeading}
@@ -23,17 +23,17 @@ use Rattle.lines.specs.declared.token.Token.{Token}
 use Rattle.lines.specs.declared.token.Token.TheVariants.{Opening, Leaf, Closing}
 use Rattle.lines.specs.Heading.{pieces_in, paired, numbers_read, numbered, with_numbers, heading_read}
 use Rattle.lines.specs.Line.{after, token_heading, line_read, numbers_in, as_line, Counted, Proper, told_line, Tells}
-use Rattle.lines.specs.Split.{run, letter, inner, onto, fields, filled, one_more, pieces_run, Found, ended, form_token, or_no_line}
+use Rattle.lines.specs.Split.{letter, inner, fields, filled, one_more, pieces_run, Found, ended, with_pieces, with_word, form_token, or_no_line}
 
 -- a run ends where the test fails
 abbrev Fails : (ℕ → Bool) → List ℕ → Type 0
 Fails test [] = Unit {0}
 Fails test (c ∷ cs) = test c ≡ false
 
-run_at : (test : ℕ → Bool) (xs ys : List ℕ) → AllByRecursion (λ c. test c ≡ true) xs → Fails test ys → run test (xs ++ ys) ≡ length xs
+run_at : (test : ℕ → Bool) (xs ys : List ℕ) → AllByRecursion (λ c. test c ≡ true) xs → Fails test ys → prefix_len test (xs ++ ys) ≡ length xs
 run_at test [] [] all f = refl
-run_at test [] (y ∷ ys) all f = cond-false (test y) (suc (run test ys)) 0 f
-run_at test (x ∷ xs) ys all f = cond-true (test x) (suc (run test (xs ++ ys))) 0 all.0 ∙ ap suc (run_at test xs ys all.1 f)
+run_at test [] (y ∷ ys) all f = cond-false (test y) (1 + (prefix_len test ys)) 0 f
+run_at test (x ∷ xs) ys all f = cond-true (test x) (1 + (prefix_len test (xs ++ ys))) 0 all.0 ∙ ap (λ n. 1 + n) (run_at test xs ys all.1 f) ∙ one-add (length xs)
 
 -- digits and the minus
 abbrev Figure : ℕ → Type 0
@@ -55,15 +55,15 @@ abbrev Plain : ℕ → Type 0
 Plain c = eqb c 32 ≡ false
 
 plain_figure : (c : ℕ) → Figure c → Plain c
-plain_figure c f = ne_eqb c 32 (λ e. omega (arith, f.0))
+plain_figure c f = grind (arith, nat_tests, f.0)
 
 fields_plain : (p : List ℕ) → AllByRecursion Plain p → fields p ≡ p ∷ []
 fields_plain [] all = refl
-fields_plain (c ∷ p) all = cond-false (eqb c 32) ([] ∷ fields p) (onto c (fields p)) all.0 ∙ ap (onto c) (fields_plain p all.1)
+fields_plain (c ∷ p) all = cond-false (eqb c 32) ([] ∷ fields p) (onto_first c (fields p)) all.0 ∙ ap (onto_first c) (fields_plain p all.1)
 
 fields_next : (p u : List ℕ) → AllByRecursion Plain p → fields (p ++ 32 ∷ u) ≡ p ∷ fields u
 fields_next [] u all = refl
-fields_next (c ∷ p) u all = cond-false (eqb c 32) ([] ∷ fields (p ++ 32 ∷ u)) (onto c (fields (p ++ 32 ∷ u))) all.0 ∙ ap (onto c) (fields_next p u all.1)
+fields_next (c ∷ p) u all = cond-false (eqb c 32) ([] ∷ fields (p ++ 32 ∷ u)) (onto_first c (fields (p ++ 32 ∷ u))) all.0 ∙ ap (onto_first c) (fields_next p u all.1)
 
 abbrev Bounded : List ℤ → Type 0
 Bounded ns = AllByRecursion (λ z. nat_abs z ≤ literal_bound) ns
@@ -79,20 +79,16 @@ pieces_spaced : (ns : List ℤ) → Bounded ns → pieces_in (spaced ns) ≡ map
 pieces_spaced [] b = refl
 pieces_spaced (x ∷ ns) b = fields_spaced x ns b
 
-filled_more : (p : List ℕ) (ps : List (List ℕ)) → 0 < length p → filled ps ≡ true → filled (p ∷ ps) ≡ true
-filled_more [] ps h e = absurd (omega arith)
-filled_more (c ∷ p) ps h e = e
-
 filled_signed : (ns : List ℤ) → Bounded ns → filled (map signed_decimal ns) ≡ true
 filled_signed [] b = refl
-filled_signed (x ∷ ns) b = filled_more (signed_decimal x) (map signed_decimal ns) (signed_some x b.0) (filled_signed ns b.1)
+filled_signed (x ∷ ns) b =
+    and_from (not (eqb (length (signed_decimal x)) 0)) (filled (map signed_decimal ns)) (ap not (ne_eqb (length (signed_decimal x)) 0 (λ e. omega (arith, signed_some x b.0)))) (filled_signed ns b.1)
 
 abbrev Inner : ℕ → Type 0
 Inner c = inner c ≡ true
 
 inner_figure : (c : ℕ) → Figure c → Inner c
-inner_figure c f =
-    ap not (or_from (eqb c 40 || eqb c 41) (eqb c 10) (or_from (eqb c 40) (eqb c 41) (ne_eqb c 40 (λ e. omega (arith, f.0))) (ne_eqb c 41 (λ e. omega (arith, f.0)))) (ne_eqb c 10 (λ e. omega (arith, f.0))))
+inner_figure c f = grind (arith, nat_tests, f.0)
 
 inner_spaced : (ns : List ℤ) → Bounded ns → AllByRecursion Inner (spaced ns)
 inner_spaced [] b = tt
@@ -106,13 +102,13 @@ run_spaced : (ns : List ℤ) (e : List ℕ) → Bounded ns → Ending e → piec
 run_spaced [] e b end = end.1.0
 run_spaced (x ∷ ns) e b end =
     let q : List ℕ = signed_decimal x ++ spaced ns in
-    let count : run inner (q ++ e) ≡ length q = run_at inner q e (inner_spaced (x ∷ ns) b).1 end.0 in
-    let front : take (run inner (q ++ e)) (q ++ e) ≡ q = take_at q e (run inner (q ++ e)) (sym count) in
-    let full : filled (fields (take (run inner (q ++ e)) (q ++ e))) ≡ true = ap (λ (xs : List ℕ). filled (fields xs)) front ∙ ap filled (fields_spaced x ns b) ∙ filled_signed (x ∷ ns) b in
-    ap one_more (cond-true (filled (fields (take (run inner (q ++ e)) (q ++ e)))) (Some (run inner (q ++ e))) None full ∙ ap (λ k. Some k) count) ∙ ap (λ k. Some k) (add-one (length q))
+    let count : prefix_len inner (q ++ e) ≡ length q = run_at inner q e (inner_spaced (x ∷ ns) b).1 end.0 in
+    let front : take (prefix_len inner (q ++ e)) (q ++ e) ≡ q = take_at q e (prefix_len inner (q ++ e)) (sym count) in
+    let full : filled (fields (take (prefix_len inner (q ++ e)) (q ++ e))) ≡ true = ap (λ (xs : List ℕ). filled (fields xs)) front ∙ ap filled (fields_spaced x ns b) ∙ filled_signed (x ∷ ns) b in
+    ap one_more (cond-true (filled (fields (take (prefix_len inner (q ++ e)) (q ++ e)))) (Some (prefix_len inner (q ++ e))) None full ∙ ap (λ k. Some k) count) ∙ ap (λ k. Some k) (add-one (length q))
 
 letter_in : (c : ℕ) → IsInRange 97 122 c → letter c ≡ true
-letter_in c i = and_from (leb 97 c) (leb c 122) (le-leb 97 c i.0) (le-leb c 122 i.1)
+letter_in c i = grind (arith, nat_tests, i.0, i.1)
 
 spaced_fails : (ns : List ℤ) (e : List ℕ) → Fails letter e → Fails letter (spaced ns ++ e)
 spaced_fails [] e f = f
@@ -121,14 +117,20 @@ spaced_fails (x ∷ ns) e f = refl
 word_some : (w : Word) → length (entry w).spelling ≡ 0 → ⊥
 word_some w e = let h = leb-true 1 (length (entry w).spelling) (each_word (λ v. leb 1 (length (entry v).spelling)) refl w) in omega arith
 
+not_empty : (n : ℕ) (w bs : List ℕ) → (length w ≡ 0 → ⊥) → with_word n w bs ≡ with_pieces n w bs (pieces_run bs)
+not_empty n [] bs some = absurd (some refl)
+not_empty n (c ∷ cs) bs some = refl
+
 -- what stands behind the bracket of a written line
 form_read : (n : ℕ) (w : Word) (ns : List ℤ) (e : List ℕ) → Bounded ns → Ending e → form_token n ((entry w).spelling ++ (spaced ns ++ e)) ≡ ended n (record { word = (entry w).spelling; pieces = spaced ns }) e
 form_read n w ns e b end =
     let word = (entry w).spelling in
     let tail = spaced ns ++ e in
-    formed n (word ++ tail) word tail (spaced ns) e (length word) (length (spaced ns))
-    (sym (run_at letter word tail (All-weaker (IsInRange 97 122) (λ c. letter c ≡ true) letter_in word (letters w)) (spaced_fails ns e end.1.1)))
-    (sym (take_at word tail (length word) refl)) (sym (drop_at word tail (length word) refl)) (word_some w) (run_spaced ns e b end) (sym (take_at (spaced ns) e (length (spaced ns)) refl)) (sym (drop_at (spaced ns) e (length (spaced ns)) refl))
+    let count : prefix_len letter (word ++ tail) ≡ length word = run_at letter word tail (All-weaker (IsInRange 97 122) (λ c. letter c ≡ true) letter_in word (letters w)) (spaced_fails ns e end.1.1) in
+    ap₂ (with_word n) (take_at word tail (prefix_len letter (word ++ tail)) (sym count)) (drop_at word tail (prefix_len letter (word ++ tail)) (sym count))
+    ∙ not_empty n word tail (word_some w)
+    ∙ ap (with_pieces n word tail) (run_spaced ns e b end)
+    ∙ ap₂ (λ (x y : List ℕ). ended n (record { word = word; pieces = x }) y) (take_at (spaced ns) e (length (spaced ns)) refl) (drop_at (spaced ns) e (length (spaced ns)) refl)
 
 -- a heading from the numbers of its word
 abbrev pub heading_of : Word → List ℤ → Heading
@@ -136,8 +138,8 @@ heading_of w ns = record { word = w; first = get_or ns 0 (pos 0); second = get_o
 
 values_read : (ns : List ℤ) → length ns ≤ 2 → Bounded ns → numbers_read (map signed_decimal ns) ≡ Some (get_or ns 0 (pos 0), get_or ns 1 (pos 0))
 values_read [] h b = refl
-values_read (x ∷ []) h b = ap (λ (o : Option ℤ). paired o (Some (pos 0))) ((spells (signed_decimal x) x).1 refl b.0)
-values_read (x ∷ y ∷ []) h b = ap₂ paired ((spells (signed_decimal x) x).1 refl b.0) ((spells (signed_decimal y) y).1 refl b.1.0)
+values_read (x ∷ []) h b = ap (λ (o : Option ℤ). paired o (Some (pos 0))) (spelled_of x b.0)
+values_read (x ∷ y ∷ []) h b = ap₂ paired (spelled_of x b.0) (spelled_of y b.1.0)
 values_read (x ∷ y ∷ z ∷ ns) h b = absurd (omega arith)
 
 two_back : (ns : List ℤ) → length ns ≤ 2 → take (length ns) (get_or ns 0 (pos 0) ∷ get_or ns 1 (pos 0) ∷ []) ≡ ns
@@ -182,11 +184,11 @@ read_back n (leaf w ns) rest p =
     ∙ ap (λ (r : Result Heading LineFault). after (after r (λ h. Ok (Leaf h n))) (λ t. Ok (t, rest))) (heading_back n w ns p)
 read_back n closing rest p = refl
 
-pub tells : (n : ℕ) (bs : List ℕ) → Tells bs (line_read n bs)
-tells n bs l rest = (to (line_read n bs) refl, λ e p. ap (λ (xs : List ℕ). told_line (line_read n xs)) e ∙ ap told_line (read_back n l rest p) ∙ ap (λ (k : Line). Some (k, rest)) (token_back n l p))
+pub tells : (n : ℕ) (bs : List ℕ) (r : Result (Token Heading × List ℕ) LineFault) → r ≡ line_read n bs → Tells bs r
+tells n bs r same l rest = (to r (sym same), λ e p. ap told_line same ∙ ap (λ (xs : List ℕ). told_line (line_read n xs)) e ∙ ap told_line (read_back n l rest p) ∙ ap (λ (k : Line). Some (k, rest)) (token_back n l p))
   where
     to : (r : Result (Token Heading × List ℕ) LineFault) → line_read n bs ≡ r → told_line r ≡ Some (l, rest) → (bs ≡ line_bytes l ++ rest) × Proper l
     to (Ok x) e f =
         let pair : ◌≡◌ {A = Line × List ℕ} (as_line x.0, x.1) (l, rest) = cc in
         subst (λ (y : Line × List ℕ). (bs ≡ line_bytes y.0 ++ y.1) × Proper y.0) pair (written_by n bs x.0 x.1 e)
-    to (Err x) e f = let z : ◌≡◌ {A = ℕ} 0 1 = cc in absurd (omega arith)
+    to (Err x) e f = absurd (cc)

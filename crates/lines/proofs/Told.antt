@@ -2,16 +2,17 @@
 use Rattle.std.proofs.Common.{◌≡◌, ℕ, ◌+◌, ◌≤◌, Bool, true, false, cond, eqb, leb, ◌⊎◌, List, [], ◌∷◌, ◌++◌, map, length, take, drop, ℤ, pos, nat_abs, IfOk, Some, None, Ok, Err, codes, Option, Result, sym, refl, ap, ◌∙◌, subst, ap₂, inl, inr, append_assoc, add-one, arith}
 use mathlib.Core.List.{tail-eq_of_cons-eq}
 use Rattle.std.proofs.lemmas.List.{take-append-drop}
+use Rattle.std.proofs.lemmas.Option.{some_pair_parts}
 use Rattle.std.proofs.lemmas.Result.{IfOk-at_ok}
 use Rattle.std.proofs.lemmas.Bool.{cond_both, eqb-true, leb-true}
-use Rattle.std.specs.List.{flat_map, AllByRecursion}
+use Rattle.std.specs.List.{onto_first, prefix_len, flat_map, AllByRecursion}
 use Rattle.std.specs.Fmt.{signed_decimal}
 use Rattle.trees.proofs.Spelling.{each_word, names}
 use Rattle.trees.specs.declared.words.Word.{Word}
 use Rattle.trees.specs.Size.{literal_bound}
 use Rattle.trees.specs.Words.{entry, word_spelled}
 use Rattle.trees.specs.Written.{line_bytes}
-use Rattle.lines.proofs.Spelled.{spells}
+use Rattle.lines.proofs.Spelled.{spelled_tells}
 use Rattle.lines.specs.declared.fault.LineFault.{LineFault}
 use Rattle.lines.specs.declared.fault.LineFault.TheVariants.{NotAHeading}
 use Rattle.lines.specs.declared.heading.Heading.{Heading}
@@ -20,7 +21,7 @@ use Rattle.lines.specs.declared.token.Token.TheVariants.{Opening, Leaf, Closing}
 use Rattle.lines.specs.Heading.{pieces_in, paired, numbers_read, numbered, with_numbers, heading_read}
 use Rattle.lines.specs.Line.{after, token_heading, line_read, numbers_in, as_line, Counted, Proper}
 use Rattle.lines.specs.Number.{number_spelled}
-use Rattle.lines.specs.Split.{run, letter, onto, fields, filled_run, one_more, pieces_run, Spelling, Found, leaf_ended, ended, with_pieces, with_word, form_token, closed, token_at, or_no_line}
+use Rattle.lines.specs.Split.{letter, fields, filled_run, one_more, pieces_run, Spelling, Found, leaf_ended, ended, with_pieces, with_word, form_token, closed, token_at, or_no_line}
 
 -- the pieces begin with a space, or there are none
 abbrev Spaced : List ℕ → Type 0
@@ -41,7 +42,7 @@ spaced_front [] k e = let z : 0 ≡ k = cc in subst (λ j. Spaced (take j [])) z
 spaced_front (c ∷ cs) k e = go (eqb c 32) refl (filled_run cs) e
   where
     go : (t : Bool) → eqb c 32 ≡ t → (o : Option ℕ) → cond t (one_more o) (Some 0) ≡ Some k → Spaced (take k (c ∷ cs))
-    go true t None f = let z : ◌≡◌ {A = ℕ} 0 1 = cc in absurd (omega arith)
+    go true t None f = absurd (cc)
     go true t (Some m) f =
         let z : m + 1 ≡ k = cc in
         inr (take m cs, ap (λ j. take j (c ∷ cs)) (sym z ∙ add-one m) ∙ ap (λ x. x ∷ take m cs) (eqb-true c 32 t))
@@ -77,7 +78,7 @@ token_holds n [] = tt
 token_holds n (c ∷ cs) =
     cond_both (eqb c 41) (closed n cs) (cond (eqb c 40) (form_token n cs) None) (Holds (c ∷ cs))
     (λ e. closed_holds n (c ∷ cs) cs (ap (λ x. x ∷ cs) (eqb-true c 41 e)))
-    (λ e. cond_both (eqb c 40) (form_token n cs) None (Holds (c ∷ cs)) (λ f. word_holds n (c ∷ cs) (take (run letter cs) cs) (drop (run letter cs) cs) (ap₂ (λ (x : ℕ) (xs : List ℕ). x ∷ xs) (eqb-true c 40 f) (sym (take-append-drop (run letter cs) cs)))) (λ f. tt))
+    (λ e. cond_both (eqb c 40) (form_token n cs) None (Holds (c ∷ cs)) (λ f. word_holds n (c ∷ cs) (take (prefix_len letter cs) cs) (drop (prefix_len letter cs) cs) (ap₂ (λ (x : ℕ) (xs : List ℕ). x ∷ xs) (eqb-true c 40 f) (sym (take-append-drop (prefix_len letter cs) cs)))) (λ f. tt))
 
 -- what a heading says of its spelling
 record Headed (s : Spelling) (h : Heading) : Type 0 where
@@ -102,22 +103,22 @@ pub two_numbers : (w : Word) → (entry w).numbers ≤ 2
 two_numbers w = leb-true (entry w).numbers 2 (each_word (λ v. leb (entry v).numbers 2) refl w)
 
 both : (o p : Option ℤ) (x y : ℤ) → paired o p ≡ Some (x, y) → (o ≡ Some x) × (p ≡ Some y)
-both None p x y e = let z : ◌≡◌ {A = ℕ} 0 1 = cc in absurd (omega arith)
-both (Some a) None x y e = let z : ◌≡◌ {A = ℕ} 0 1 = cc in absurd (omega arith)
+both None p x y e = absurd (cc)
+both (Some a) None x y e = absurd (cc)
 both (Some a) (Some b) x y e =
-    let pair : ◌≡◌ {A = ℤ × ℤ} (a, b) (x, y) = cc in
-    (ap (λ (z : ℤ × ℤ). Some z.0) pair, ap (λ (z : ℤ × ℤ). Some z.1) pair)
+    let (f, g) = some_pair_parts a x b y e in
+    (ap (λ z. Some z) f, ap (λ z. Some z) g)
 
 -- pieces that are read as numbers are these numbers in decimal
 pieces_tell : (ps : List (List ℕ)) (x y : ℤ) → length ps ≤ 2 → numbers_read ps ≡ Some (x, y) → (ps ≡ map signed_decimal (take (length ps) (x ∷ y ∷ []))) × ((length (take (length ps) (x ∷ y ∷ [])) ≡ length ps) × AllByRecursion (λ z. nat_abs z ≤ literal_bound) (take (length ps) (x ∷ y ∷ [])))
 pieces_tell [] x y h e = (refl, (refl, tt))
 pieces_tell (p ∷ []) x y h e =
-    let a = (spells p x).0 (both (number_spelled p) (Some (pos 0)) x y e).0 in
+    let a = spelled_tells p x (both (number_spelled p) (Some (pos 0)) x y e).0 in
     (ap (λ (q : List ℕ). q ∷ []) a.0, (refl, (a.1, tt)))
 pieces_tell (p ∷ q ∷ []) x y h e =
     let (f, g) = both (number_spelled p) (number_spelled q) x y e in
-    let a = (spells p x).0 f in
-    let b = (spells q y).0 g in
+    let a = spelled_tells p x f in
+    let b = spelled_tells q y g in
     (ap₂ (λ (r s : List ℕ). r ∷ s ∷ []) a.0 b.0, (refl, (a.1, (b.1, tt))))
 pieces_tell (p ∷ q ∷ r ∷ ps) x y h e = absurd (omega arith)
 
@@ -125,9 +126,9 @@ rejoin : (cs : List ℕ) → flat_map (λ (f : List ℕ). 32 ∷ f) (fields cs) 
 rejoin [] = refl
 rejoin (c ∷ cs) = go (eqb c 32) refl (fields cs) (rejoin cs)
   where
-    go : (t : Bool) → eqb c 32 ≡ t → (fs : List (List ℕ)) → flat_map (λ (f : List ℕ). 32 ∷ f) fs ≡ 32 ∷ cs → flat_map (λ (f : List ℕ). 32 ∷ f) (cond t ([] ∷ fs) (onto c fs)) ≡ 32 ∷ c ∷ cs
+    go : (t : Bool) → eqb c 32 ≡ t → (fs : List (List ℕ)) → flat_map (λ (f : List ℕ). 32 ∷ f) fs ≡ 32 ∷ cs → flat_map (λ (f : List ℕ). 32 ∷ f) (cond t ([] ∷ fs) (onto_first c fs)) ≡ 32 ∷ c ∷ cs
     go true e fs ih = ap (λ (xs : List ℕ). 32 ∷ xs) ih ∙ ap (λ x. 32 ∷ x ∷ cs) (sym (eqb-true c 32 e))
-    go false e [] ih = let z : ◌≡◌ {A = ℕ} 0 1 = cc in absurd (omega arith)
+    go false e [] ih = absurd (cc)
     go false e (f ∷ fs) ih = ap (λ (xs : List ℕ). 32 ∷ c ∷ xs) (tail-eq_of_cons-eq ih)
 
 rejoined : (ps : List ℕ) → Spaced ps → flat_map (λ (f : List ℕ). 32 ∷ f) (pieces_in ps) ≡ ps

@@ -1,25 +1,17 @@
 -- The word and the numbers of a line, from its spelling.
-use Rattle.std.specs.Prelude.{ℕ, Bool, cond, not, List, [], ◌∷◌, length, take, drop, ℤ, pos, Some, None, Ok, Err, Option, Result, ◌==◌}
+use Rattle.std.specs.Prelude.{ℕ, cond, List, [], ◌∷◌, length, ℤ, pos, Some, None, Ok, Err, Option, Result, ◌==◌}
 use Rattle.trees.specs.declared.words.Word.{Word}
 use Rattle.trees.specs.Words.{entry, word_spelled}
 use Rattle.lines.specs.declared.fault.LineFault.{LineFault}
 use Rattle.lines.specs.declared.fault.LineFault.TheVariants.{NotAHeading, NotANumber}
 use Rattle.lines.specs.declared.heading.Heading.{Heading}
 use Rattle.lines.specs.Number.{number_spelled}
-use Rattle.lines.specs.Split.{run, fields, Spelling}
+use Rattle.lines.specs.Split.{fields, Spelling}
 
 -- the pieces without their spaces
 abbrev pub pieces_in : List ℕ → List (List ℕ)
 pieces_in [] = []
 pieces_in (c ∷ cs) = fields cs
-
-abbrev pub plain : ℕ → Bool
-plain c = not (c == 32)
-
--- the first piece and those behind it
-abbrev pub first_piece : List ℕ → Option (List ℕ × List ℕ)
-first_piece [] = None
-first_piece (c ∷ cs) = Some (take (run plain cs) cs, drop (run plain cs) cs)
 
 abbrev pub paired : Option ℤ → Option ℤ → Option (ℤ × ℤ)
 paired None o = None

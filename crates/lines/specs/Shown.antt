@@ -24,10 +24,6 @@ abbrev pub shown_line : Result (Token Heading × Bor (List ℕ)) LineFault → R
 shown_line (Ok x) = Ok (x.0, x.1.now)
 shown_line (Err e) = Err e
 
-abbrev pub shown_piece : Option (Bor (List ℕ) × Bor (List ℕ)) → Option (List ℕ × List ℕ)
-shown_piece None = None
-shown_piece (Some x) = Some (x.0.now, x.1.now)
-
 abbrev pub shown_read : Result (Token Spelled × Bor (List ℕ)) LineFault → Result (Token Spelling × List ℕ) LineFault
 shown_read (Ok x) = Ok (shown_token x.0, x.1.now)
 shown_read (Err e) = Err e

@@ -1,6 +1,7 @@
 -- How a line is split: `)` alone, or `(`, a word of letters, pieces and perhaps `)`; then the line end.
-use Rattle.std.specs.Prelude.{ℕ, suc, ◌+◌, Bool, true, false, cond, not, ◌||◌, List, [], ◌∷◌, take, drop, Some, None, Ok, Err, Option, Result, ◌==◌}
+use Rattle.std.specs.Prelude.{ℕ, ◌+◌, Bool, cond, not, ◌||◌, List, [], ◌∷◌, length, take, drop, Some, None, Ok, Err, Option, Result, ◌==◌}
 use Rattle.std.specs.Char.{is_ascii_lowercase}
+use Rattle.std.specs.List.{list_all, prefix_len, slice_split, take_while}
 use Rattle.lines.specs.declared.fault.LineFault.{LineFault}
 use Rattle.lines.specs.declared.fault.LineFault.TheVariants.{NotALine}
 use Rattle.lines.specs.declared.token.Token.{Token}
@@ -13,29 +14,20 @@ letter c = is_ascii_lowercase c
 abbrev pub inner : ℕ → Bool
 inner c = not (c == 40 || c == 41 || c == 10)
 
--- how many bytes in front pass a test
-abbrev pub run : (ℕ → Bool) → List ℕ → ℕ
-run test [] = 0
-run test (c ∷ cs) = cond (test c) (suc (run test cs)) 0
-
-abbrev pub onto : ℕ → List (List ℕ) → List (List ℕ)
-onto c [] = (c ∷ []) ∷ []
-onto c (f ∷ fs) = (c ∷ f) ∷ fs
+abbrev pub space : ℕ → Bool
+space c = c == 32
 
 -- what stands before, between and behind the spaces
 abbrev pub fields : List ℕ → List (List ℕ)
-fields [] = [] ∷ []
-fields (c ∷ cs) = cond (c == 32) ([] ∷ fields cs) (onto c (fields cs))
+fields bs = slice_split space bs
 
 -- none is empty
 abbrev pub filled : List (List ℕ) → Bool
-filled [] = true
-filled ([] ∷ fs) = false
-filled ((c ∷ cs) ∷ fs) = filled fs
+filled fs = list_all (λ f. not (length f == 0)) fs
 
 -- how many bytes come before a bracket or a line end, if none of their fields is empty
 abbrev pub filled_run : List ℕ → Option ℕ
-filled_run bs = cond (filled (fields (take (run inner bs) bs))) (Some (run inner bs)) None
+filled_run bs = cond (filled (fields (take_while inner bs))) (Some (prefix_len inner bs)) None
 
 abbrev pub one_more : Option ℕ → Option ℕ
 one_more None = None
@@ -73,7 +65,7 @@ with_word n (c ∷ cs) bs = with_pieces n (c ∷ cs) bs (pieces_run bs)
 
 -- what stands behind `(`
 abbrev pub form_token : ℕ → List ℕ → Found
-form_token n bs = with_word n (take (run letter bs) bs) (drop (run letter bs) bs)
+form_token n bs = with_word n (take (prefix_len letter bs) bs) (drop (prefix_len letter bs) bs)
 
 abbrev pub closed : ℕ → List ℕ → Found
 closed n [] = None

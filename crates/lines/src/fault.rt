@@ -22,10 +22,6 @@ impl Fault for LineFault {
             LineFault::NotAHeading { line } => (6, line),
             LineFault::NotANumber { line } => (7, line),
         };
-        Refusal {
-            number,
-            first,
-            second: 0,
-        }
+        Refusal::new(number, first, 0)
     }
 }

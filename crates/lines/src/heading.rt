@@ -1,9 +1,10 @@
 // The word and the numbers of a line.
-ghost use Rattle.std.specs.Prelude.{◌≡◌, ◌+◌, ◌^◌, ◌<◌, length};
-ghost use Rattle.lines.specs.Heading.{first_piece, heading_read, numbers_read, pieces_in, plain};
+ghost use Rattle.std.specs.Prelude.{◌≡◌, [], ◌∷◌, length, MatchOption};
+ghost use Rattle.std.specs.List.{position_or_len};
+ghost use Rattle.lines.specs.Heading.{heading_read, numbers_read, pieces_in};
 ghost use Rattle.lines.specs.Line.{Tells, line_read, token_heading};
-ghost use Rattle.lines.specs.Shown.{shown_line, shown_piece, shown_token, spelling};
-ghost use Rattle.lines.specs.Split.{fields, run};
+ghost use Rattle.lines.specs.Shown.{shown_line, shown_token, spelling};
+ghost use Rattle.lines.specs.Split.{space};
 
 use crate::fault::LineFault;
 use crate::number::number;
@@ -24,12 +25,6 @@ pub fn read_line<'a>(text: &'a [u8], line: usize) -> Result<(Token<Heading>, &'a
     ensures value { shown_line result ≡ line_read line text.now }
     ensures exactly { Tells text.now (shown_line result) }
 {
-    first_line(text, line)
-}
-
-fn first_line<'a>(text: &'a [u8], line: usize) -> Result<(Token<Heading>, &'a [u8]), LineFault>
-    ensures { shown_line result ≡ line_read line text.now }
-{
     let (token, rest) = next_token(text, line)?;
     Ok((read_token(token)?, rest))
 }
@@ -38,31 +33,26 @@ fn first_line<'a>(text: &'a [u8], line: usize) -> Result<(Token<Heading>, &'a [u
 fn read_token(token: Token<Spelled>) -> Result<Token<Heading>, LineFault>
     ensures { result ≡ token_heading (shown_token token.entry) }
 {
-    match token {
-        Token::Opening { heading, line } => {
-            let heading = read_heading(heading, line)?;
-            Ok(Token::Opening { heading, line })
-        }
-        Token::Leaf { heading, line } => {
-            let heading = read_heading(heading, line)?;
-            Ok(Token::Leaf { heading, line })
-        }
-        Token::Closing { line } => Ok(Token::Closing { line }),
-    }
+    Ok(match token {
+        Token::Opening { heading, line } => Token::Opening {
+            heading: read_heading(heading, line)?,
+            line,
+        },
+        Token::Leaf { heading, line } => Token::Leaf {
+            heading: read_heading(heading, line)?,
+            line,
+        },
+        Token::Closing { line } => Token::Closing { line },
+    })
 }
 
 fn read_heading(spelled: Spelled, line: usize) -> Result<Heading, LineFault>
     ensures { result ≡ heading_read line (spelling spelled.entry) }
 {
-    let Some(word) = Word::named(spelled.word) else {
-        return Err(LineFault::NotAHeading { line });
-    };
-    if count_pieces(spelled.pieces) != word.numbers() {
-        return Err(LineFault::NotAHeading { line });
-    }
-    let Some((first, second)) = numbers(spelled.pieces) else {
-        return Err(LineFault::NotANumber { line });
-    };
+    let word = Word::named(spelled.word)
+        .filter(|word| word.numbers() == count_pieces(spelled.pieces))
+        .ok_or(LineFault::NotAHeading { line })?;
+    let (first, second) = numbers(spelled.pieces).ok_or(LineFault::NotANumber { line })?;
     Ok(Heading {
         word,
         first,
@@ -75,21 +65,8 @@ fn count_pieces(pieces: &[u8]) -> usize
 {
     match pieces {
         [] => 0,
-        [_, rest @ ..] => count_fields(rest),
+        [_, rest @ ..] => rest.split(|byte| *byte == b' ').count(),
     }
-}
-
-fn count_fields(bytes: &[u8]) -> usize
-    requires { length bytes.now + 1 < 2 ^ 64 }
-    ensures { result ≡ length (fields bytes.now) }
-{
-    let mut count = 1;
-    for byte in bytes {
-        if *byte == b' ' {
-            count += 1;
-        }
-    }
-    count
 }
 
 // The numbers that the first two pieces spell, 0 where there is no such piece.
@@ -108,7 +85,7 @@ fn numbers(pieces: &[u8]) -> Option<(i64, i64)>
 
 // The first piece without its space, and the pieces behind it.
 fn split_piece(pieces: &[u8]) -> Option<(&[u8], &[u8])>
-    ensures { shown_piece result ≡ first_piece pieces.now }
+    ensures { MatchOption result (pieces_in pieces.now ≡ []) (λ x. pieces_in pieces.now ≡ x.0.now ∷ pieces_in x.1.now) }
 {
     match pieces {
         [] => None,
@@ -118,12 +95,7 @@ fn split_piece(pieces: &[u8]) -> Option<(&[u8], &[u8])>
 
 // How many bytes come before a space.
 fn plain_len(bytes: &[u8]) -> usize
-    ensures { result ≡ run plain bytes.now }
+    ensures { result ≡ position_or_len space bytes.now }
 {
-    for (i, byte) in bytes.iter().enumerate() {
-        if *byte == b' ' {
-            return i;
-        }
-    }
-    bytes.len()
+    bytes.iter().take_while(|byte| **byte != b' ').count()
 }

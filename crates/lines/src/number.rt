@@ -1,6 +1,6 @@
 // Whole numbers as a query spells them: digits with no needless zeros, perhaps a minus in front, and not `-0`.
 ghost use Rattle.std.specs.Prelude.{◌≡◌};
-ghost use Rattle.lines.specs.Number.{negative, number_spelled, numeral, positive, value_from, Spells};
+ghost use Rattle.lines.specs.Number.{number_spelled, numeral, value_from, Spells};
 
 // How far from 0 a number in a query may be.
 const LITERAL_BOUND: u32 = 1_000_000;
@@ -10,33 +10,9 @@ pub fn number(piece: &[u8]) -> Option<i64>
     ensures value { result ≡ number_spelled piece.now }
     ensures exactly { Spells piece.now result }
 {
-    signed(piece)
-}
-
-fn signed(piece: &[u8]) -> Option<i64>
-    ensures { result ≡ number_spelled piece.now }
-{
     match piece {
-        [b'-', digits @ ..] => negated(unsigned(digits)),
-        _ => widened(unsigned(piece)),
-    }
-}
-
-fn negated(n: Option<u32>) -> Option<i64>
-    ensures { result ≡ negative n }
-{
-    match n {
-        None | Some(0) => None,
-        Some(n) => Some(-(n as i64)),
-    }
-}
-
-fn widened(n: Option<u32>) -> Option<i64>
-    ensures { result ≡ positive n }
-{
-    match n {
-        None => None,
-        Some(n) => Some(n as i64),
+        [b'-', digits @ ..] => unsigned(digits).filter(|n| *n != 0).map(|n| -i64::from(n)),
+        _ => unsigned(piece).map(i64::from),
     }
 }
 
@@ -57,7 +33,7 @@ fn value(digits: &[u8]) -> Option<u32>
         if !digit.is_ascii_digit() {
             return None;
         }
-        n = 10 * n + (*digit - b'0') as u32;
+        n = 10 * n + u32::from(*digit - b'0');
         if n > LITERAL_BOUND {
             return None;
         }

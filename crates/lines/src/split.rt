@@ -1,7 +1,8 @@
 // A line is split into its token; what the token holds is lent from the text.
-ghost use Rattle.std.specs.Prelude.{◌≡◌, if◌then◌else◌, Some, None};
+ghost use Rattle.std.specs.Prelude.{◌≡◌};
+ghost use Rattle.std.specs.List.{prefix_len};
 ghost use Rattle.lines.specs.Shown.{shown, shown_read};
-ghost use Rattle.lines.specs.Split.{filled_run, form_token, inner, letter, pieces_run, run, token_at, token_read};
+ghost use Rattle.lines.specs.Split.{fields, filled, filled_run, form_token, inner, letter, pieces_run, token_at, token_read};
 
 use crate::fault::LineFault;
 use crate::token::{Spelled, Token};
@@ -13,10 +14,7 @@ pub fn next_token<'a>(
 ) -> Result<(Token<Spelled<'a>>, &'a [u8]), LineFault>
     ensures { shown_read result ≡ token_read line text.now }
 {
-    match first_token(text, line) {
-        Some(found) => Ok(found),
-        None => Err(LineFault::NotALine { line }),
-    }
+    first_token(text, line).ok_or(LineFault::NotALine { line })
 }
 
 fn first_token<'a>(text: &'a [u8], line: usize) -> Option<(Token<Spelled<'a>>, &'a [u8])>
@@ -47,14 +45,12 @@ fn form_token<'a>(text: &'a [u8], line: usize) -> Option<(Token<Spelled<'a>>, &'
 
 // How many letters come first.
 fn letters(bytes: &[u8]) -> usize
-    ensures { result ≡ run letter bytes.now }
+    ensures { result ≡ prefix_len letter bytes.now }
 {
-    for (i, byte) in bytes.iter().enumerate() {
-        if !byte.is_ascii_lowercase() {
-            return i;
-        }
-    }
-    bytes.len()
+    bytes
+        .iter()
+        .take_while(|byte| byte.is_ascii_lowercase())
+        .count()
 }
 
 // How many bytes of pieces come first, if each piece has a byte behind its space.
@@ -71,28 +67,24 @@ fn pieces_len(bytes: &[u8]) -> Option<usize>
 fn filled_len(bytes: &[u8]) -> Option<usize>
     ensures { result ≡ filled_run bytes.now }
 {
-    let mut blank = true;
-    for (i, byte) in bytes.iter().enumerate() {
-        if !is_inner(*byte) {
-            return unless_blank(blank, i);
-        }
-        let space = *byte == b' ';
-        if space && blank {
-            return None;
-        }
-        blank = space;
-    }
-    unless_blank(blank, bytes.len())
+    let len = inner_len(bytes);
+    are_filled(&bytes[..len]).then_some(len)
 }
 
-fn unless_blank(blank: bool, len: usize) -> Option<usize>
-    ensures { result ≡ (if blank then None else Some len) }
+fn inner_len(bytes: &[u8]) -> usize
+    ensures { result ≡ prefix_len inner bytes.now }
 {
-    if blank { None } else { Some(len) }
+    bytes
+        .iter()
+        .take_while(|byte| !matches!(**byte, b'(' | b')' | b'\n'))
+        .count()
 }
 
-fn is_inner(byte: u8) -> bool
-    ensures { result ≡ inner byte }
+// Whether a byte stands before, between and behind the spaces.
+fn are_filled(bytes: &[u8]) -> bool
+    ensures { result ≡ filled (fields bytes.now) }
 {
-    !(byte == b'(' || byte == b')' || byte == b'\n')
+    bytes
+        .split(|byte| *byte == b' ')
+        .all(|field| !field.is_empty())
 }

@@ -3,15 +3,15 @@ use Rattle.std.proofs.Common.{◌≡◌, ℕ, suc, ◌+◌, ◌<◌, Bool, true,
 use Rattle.std.proofs.ByRecursion.{All-drop}
 use Rattle.std.proofs.lemmas.List.{take-append-le, drop-append-le, length-append}
 use Rattle.std.proofs.lemmas.Bool.{cases_eq, cond-true, cond-false, eq-eqb, ne_eqb}
-use Rattle.std.specs.List.{AllByRecursion}
-use Rattle.lines.proofs.Fields.{run_le}
+use Rattle.std.specs.List.{AllByRecursion, onto_first, prefix_len}
+use Rattle.std.proofs.lemmas.List.Sums.{prefix_len-le-length}
 use Rattle.lines.proofs.Splits.{pieces_le}
 use Rattle.lines.specs.declared.fault.LineFault.{LineFault}
 use Rattle.lines.specs.declared.heading.Heading.{Heading}
 use Rattle.lines.specs.declared.token.Token.{Token}
 use Rattle.lines.specs.declared.token.Token.TheVariants.{Opening, Leaf, Closing}
 use Rattle.lines.specs.Line.{after, token_heading, line_read}
-use Rattle.lines.specs.Split.{run, letter, inner, onto, fields, filled, filled_run, one_more, pieces_run, Spelling, Found, leaf_ended, ended, with_pieces, with_word, form_token, closed, token_at, or_no_line}
+use Rattle.lines.specs.Split.{letter, inner, fields, filled, filled_run, one_more, pieces_run, Spelling, Found, leaf_ended, ended, with_pieces, with_word, form_token, closed, token_at, or_no_line}
 use Rattle.reading.specs.declared.fault.FormFault.{FormFault}
 use Rattle.reading.specs.declared.fault.FormFault.TheVariants.{Line}
 use Rattle.reading.specs.Progress.{State, step}
@@ -27,29 +27,29 @@ Cut bs =
     ((m : List ℕ) × (r : List ℕ) × (bs ≡ m ++ 10 ∷ r) × AllByRecursion Inside m × (lines_of bs ≡ (m ++ 10 ∷ []) ∷ lines_of r))
     ⊎ (AllByRecursion Inside bs × (lines_of bs ≡ bs ∷ []))
 
-lines_more : (c : ℕ) (cs : List ℕ) → Inside c → lines_of (c ∷ cs) ≡ onto c (lines_of cs)
-lines_more c cs ne = cond-false (eqb c 10) ((10 ∷ []) ∷ lines_of cs) (onto c (lines_of cs)) (ne_eqb c 10 ne)
+lines_more : (c : ℕ) (cs : List ℕ) → Inside c → lines_of (c ∷ cs) ≡ onto_first c (lines_of cs)
+lines_more c cs ne = cond-false (eqb c 10) ((10 ∷ []) ∷ lines_of cs) (onto_first c (lines_of cs)) (ne_eqb c 10 ne)
 
 grow : (c : ℕ) (cs : List ℕ) → Inside c → Cut cs → Cut (c ∷ cs)
-grow c cs ne (inl x) = inl (c ∷ x.0, x.1, ap (λ (ys : List ℕ). c ∷ ys) x.2, (ne, x.3), lines_more c cs ne ∙ ap (onto c) x.4)
-grow c cs ne (inr x) = inr ((ne, x.0), lines_more c cs ne ∙ ap (onto c) x.1)
+grow c cs ne (inl x) = inl (c ∷ x.0, x.1, ap (λ (ys : List ℕ). c ∷ ys) x.2, (ne, x.3), lines_more c cs ne ∙ ap (onto_first c) x.4)
+grow c cs ne (inr x) = inr ((ne, x.0), lines_more c cs ne ∙ ap (onto_first c) x.1)
 
 ends : (c : ℕ) (cs : List ℕ) → c ≡ 10 → Cut (c ∷ cs)
-ends c cs e = inl ([], cs, ap (λ x. x ∷ cs) e, tt, cond-true (eqb c 10) ((10 ∷ []) ∷ lines_of cs) (onto c (lines_of cs)) (eq-eqb c 10 e))
+ends c cs e = inl ([], cs, ap (λ x. x ∷ cs) e, tt, cond-true (eqb c 10) ((10 ∷ []) ∷ lines_of cs) (onto_first c (lines_of cs)) (eq-eqb c 10 e))
 
 cut : (c : ℕ) (cs : List ℕ) → Cut (c ∷ cs)
 cut c [] = elim (cases_eq c 10) [ inl e ↦ ends c [] e | inr ne ↦ inr ((ne, tt), lines_more c [] ne) ]
 cut c (d ∷ ds) = elim (cases_eq c 10) [ inl e ↦ ends c (d ∷ ds) e | inr ne ↦ grow c (d ∷ ds) ne (cut d ds) ]
 
 -- a run that stops at a line end does not look behind it
-run_inside : (test : ℕ → Bool) → test 10 ≡ false → (m r : List ℕ) → run test (m ++ 10 ∷ r) ≡ run test m
-run_inside test e [] r = cond-false (test 10) (suc (run test r)) 0 e
-run_inside test e (c ∷ m) r = ap (λ n. cond (test c) (suc n) 0) (run_inside test e m r)
+run_inside : (test : ℕ → Bool) → test 10 ≡ false → (m r : List ℕ) → prefix_len test (m ++ 10 ∷ r) ≡ prefix_len test m
+run_inside test e [] r = cond-false (test 10) (1 + prefix_len test r) 0 e
+run_inside test e (c ∷ m) r = ap (λ n. cond (test c) (1 + n) 0) (run_inside test e m r)
 
 filled_inside : (m r : List ℕ) → filled_run (m ++ 10 ∷ r) ≡ filled_run m
 filled_inside m r =
     let same = run_inside inner refl m r in
-    ap₂ (λ (xs : List ℕ) (n : ℕ). cond (filled (fields xs)) (Some n) None) (ap (λ n. take n (m ++ 10 ∷ r)) same ∙ take-append-le (run inner m) m (10 ∷ r) (run_le inner m)) same
+    ap₂ (λ (xs : List ℕ) (n : ℕ). cond (filled (fields xs)) (Some n) None) (ap (λ n. take n (m ++ 10 ∷ r)) same ∙ take-append-le (prefix_len inner m) m (10 ∷ r) (prefix_len-le-length inner m)) same
 
 pieces_inside : (m r : List ℕ) → pieces_run (m ++ 10 ∷ r) ≡ pieces_run m
 pieces_inside [] r = refl
@@ -78,7 +78,7 @@ closed_in n (c ∷ m) = None
 
 abbrev token_in : ℕ → List ℕ → Option (Token Spelling)
 token_in n [] = None
-token_in n (c ∷ m) = cond (eqb c 41) (closed_in n m) (cond (eqb c 40) (word_token n (take (run letter m) m) (drop (run letter m) m)) None)
+token_in n (c ∷ m) = cond (eqb c 41) (closed_in n m) (cond (eqb c 40) (word_token n (take (prefix_len letter m) m) (drop (prefix_len letter m) m)) None)
 
 abbrev with_rest : List ℕ → Option (Token Spelling) → Found
 with_rest r None = None
@@ -110,12 +110,12 @@ module _ (n : ℕ) (r : List ℕ) where
   word_same [] u all = refl
   word_same (c ∷ w) u all = ap (with_pieces n (c ∷ w) (u ++ 10 ∷ r)) (pieces_inside u r) ∙ pieces_same (c ∷ w) u (pieces_run u) refl all
 
-  form_same : (m : List ℕ) → AllByRecursion Inside m → form_token n (m ++ 10 ∷ r) ≡ with_rest r (word_token n (take (run letter m) m) (drop (run letter m) m))
+  form_same : (m : List ℕ) → AllByRecursion Inside m → form_token n (m ++ 10 ∷ r) ≡ with_rest r (word_token n (take (prefix_len letter m) m) (drop (prefix_len letter m) m))
   form_same m all =
       let same = run_inside letter refl m r in
-      let small = run_le letter m in
-      ap₂ (with_word n) (ap (λ i. take i (m ++ 10 ∷ r)) same ∙ take-append-le (run letter m) m (10 ∷ r) small) (ap (λ i. drop i (m ++ 10 ∷ r)) same ∙ drop-append-le (run letter m) m (10 ∷ r) small)
-      ∙ word_same (take (run letter m) m) (drop (run letter m) m) (All-drop Inside (run letter m) m all)
+      let small = prefix_len-le-length letter m in
+      ap₂ (with_word n) (ap (λ i. take i (m ++ 10 ∷ r)) same ∙ take-append-le (prefix_len letter m) m (10 ∷ r) small) (ap (λ i. drop i (m ++ 10 ∷ r)) same ∙ drop-append-le (prefix_len letter m) m (10 ∷ r) small)
+      ∙ word_same (take (prefix_len letter m) m) (drop (prefix_len letter m) m) (All-drop Inside (prefix_len letter m) m all)
 
   closed_same : (m : List ℕ) → AllByRecursion Inside m → closed n (m ++ 10 ∷ r) ≡ with_rest r (closed_in n m)
   closed_same [] all = refl
@@ -124,7 +124,7 @@ module _ (n : ℕ) (r : List ℕ) where
   token_same : (m : List ℕ) → AllByRecursion Inside m → token_at n (m ++ 10 ∷ r) ≡ with_rest r (token_in n m)
   token_same [] all = refl
   token_same (c ∷ m) all =
-      let form = word_token n (take (run letter m) m) (drop (run letter m) m) in
+      let form = word_token n (take (prefix_len letter m) m) (drop (prefix_len letter m) m) in
       choose (eqb c 41) r (closed n (m ++ 10 ∷ r)) (cond (eqb c 40) (form_token n (m ++ 10 ∷ r)) None) (closed_in n m) (cond (eqb c 40) form None) (closed_same m all.1)
       (choose (eqb c 40) r (form_token n (m ++ 10 ∷ r)) None form None (form_same m all.1) refl)
 
@@ -158,7 +158,7 @@ module _ (n : ℕ) where
   token_none : (m : List ℕ) → AllByRecursion Inside m → token_at n m ≡ None
   token_none [] all = refl
   token_none (c ∷ m) all =
-      neither (eqb c 41) (closed n m) (cond (eqb c 40) (form_token n m) None) (closed_none m all.1) (neither (eqb c 40) (form_token n m) None (word_none (take (run letter m) m) (drop (run letter m) m) (All-drop Inside (run letter m) m all.1)) refl)
+      neither (eqb c 41) (closed n m) (cond (eqb c 40) (form_token n m) None) (closed_none m all.1) (neither (eqb c 40) (form_token n m) None (word_none (take (prefix_len letter m) m) (drop (prefix_len letter m) m) (All-drop Inside (prefix_len letter m) m all.1)) refl)
 
 abbrev found_read : ℕ → Found → Result (Token Heading × List ℕ) LineFault
 found_read n o = after (or_no_line n o) (λ x. after (token_heading x.0) (λ t. Ok (t, x.1)))
@@ -238,7 +238,7 @@ pub no_lines : (bs : List ℕ) → none (lines_of bs) ≡ eqb (length bs) 0
 no_lines [] = refl
 no_lines (c ∷ cs) = go (eqb c 10) (lines_of cs) ∙ sym (ne_eqb (suc (length cs)) 0 (λ e. omega arith))
   where
-    go : (t : Bool) (ls : List (List ℕ)) → none (cond t ((10 ∷ []) ∷ ls) (onto c ls)) ≡ false
+    go : (t : Bool) (ls : List (List ℕ)) → none (cond t ((10 ∷ []) ∷ ls) (onto_first c ls)) ≡ false
     go true ls = refl
     go false [] = refl
     go false (l ∷ ls) = refl

@@ -1,11 +1,11 @@
 -- What a text is read as: its lines one after the other, each with the forms that are open before it.
 use Rattle.std.specs.Prelude.{◌≡◌, ℕ, ◌+◌, Bool, true, false, cond, List, [], ◌∷◌, Some, None, Ok, Err, Option, Result, ◌==◌}
+use Rattle.std.specs.List.{onto_first}
 use Rattle.forms.specs.declared.form.Entry.{Entry}
 use Rattle.lines.specs.declared.fault.LineFault.{LineFault}
 use Rattle.lines.specs.declared.heading.Heading.{Heading}
 use Rattle.lines.specs.declared.token.Token.{Token}
 use Rattle.lines.specs.Line.{after, line_read}
-use Rattle.lines.specs.Split.{onto}
 use Rattle.reading.specs.declared.fault.FormFault.{FormFault}
 use Rattle.reading.specs.declared.fault.FormFault.TheVariants.{Line, WrongKind}
 use Rattle.reading.specs.Progress.{State, start, step}
@@ -13,7 +13,7 @@ use Rattle.reading.specs.Progress.{State, start, step}
 -- the lines of a text, each with its line end; what stands behind the last line end is a line without one
 abbrev pub lines_of : List ℕ → List (List ℕ)
 lines_of [] = []
-lines_of (c ∷ cs) = cond (c == 10) ((10 ∷ []) ∷ lines_of cs) (onto c (lines_of cs))
+lines_of (c ∷ cs) = cond (c == 10) ((10 ∷ []) ∷ lines_of cs) (onto_first c (lines_of cs))
 
 abbrev pub said : Result (Token Heading × List ℕ) LineFault → Result (Token Heading) FormFault
 said (Ok x) = Ok x.0

@@ -8,16 +8,16 @@ use Rattle.rules.specs.Typing.{after, after_two, index, place, settle}
 
 pub after_ok : {X Y : Type 0} (m : Result X Refusal) (f : X → Result Y Refusal) (y : Y) → after m f ≡ Ok y → (x : X) × (m ≡ Ok x) × (f x ≡ Ok y)
 after_ok (Ok x) f y e = (x, refl, e)
-after_ok (Err r) f y e = let z : ◌≡◌ {A = ℕ} 0 1 = cc in absurd (omega arith)
+after_ok (Err r) f y e = absurd (cc)
 
 pub after_two_ok : {X Y Z : Type 0} (a : Result X Refusal) (b : Result Y Refusal) (f : X → Y → Result Z Refusal) (z : Z) → after_two a b f ≡ Ok z → (x : X) × (y : Y) × (a ≡ Ok x) × (b ≡ Ok y) × (f x y ≡ Ok z)
 after_two_ok (Ok x) (Ok y) f z e = (x, y, refl, refl, e)
-after_two_ok (Ok x) (Err r) f z e = let zero_one : ◌≡◌ {A = ℕ} 0 1 = cc in absurd (omega arith)
-after_two_ok (Err r) b f z e = let zero_one : ◌≡◌ {A = ℕ} 0 1 = cc in absurd (omega arith)
+after_two_ok (Ok x) (Err r) f z e = absurd (cc)
+after_two_ok (Err r) b f z e = absurd (cc)
 
 pub settle_ok : {X : Type 0} (o : Option Refusal) (x y : X) → settle o x ≡ Ok y → (is_some o ≡ false) × (x ≡ y)
 settle_ok None x y e = (refl, cc)
-settle_ok (Some r) x y e = let z : ◌≡◌ {A = ℕ} 0 1 = cc in absurd (omega arith)
+settle_ok (Some r) x y e = absurd (cc)
 
 -- both rules of two
 pub both_none : (a b : Bool) (r s : Refusal) → is_some (or_else (unless a r) (unless b s)) ≡ false → (a ≡ true) × (b ≡ true)

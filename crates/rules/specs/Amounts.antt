@@ -1,5 +1,6 @@
 -- Four amounts, one for each input, and how they are added and multiplied.
-use Rattle.std.specs.Prelude.{ℕ, ◌+◌, ◌*◌, Bool, true, cond, ◌&&◌, List, [], ◌∷◌, map, ◌==◌, nat_le, slice_index}
+use Rattle.std.specs.Prelude.{ℕ, ◌+◌, ◌*◌, Bool, true, cond, ◌&&◌, List, [], ◌∷◌, ◌++◌, codes, map, ◌==◌, nat_le, slice_index}
+use Rattle.std.specs.Fmt.{decimal}
 use Rattle.rules.specs.declared.amounts.Amounts.{Amounts}
 
 abbrev pub amounts : (a b c d : ℕ) → Amounts
@@ -42,3 +43,7 @@ all_times n xs = map (λ x. n * x) xs
 abbrev pub all_at_most : ℕ → List ℕ → Bool
 all_at_most n [] = true
 all_at_most n (x ∷ xs) = nat_le x n && all_at_most n xs
+
+-- the four amounts, with a space between: `1 0 0 2`
+abbrev pub printed : Amounts → List ℕ
+printed a = decimal a.source_0 ++ codes " " ++ decimal a.source_1 ++ codes " " ++ decimal a.setting_0 ++ codes " " ++ decimal a.setting_1

@@ -1,7 +1,9 @@
 // Four amounts, one for each input of a query.
-ghost use Rattle.std.specs.Prelude.{◌≡◌, ◌≤◌, true};
-ghost use Rattle.rules.specs.Amounts.{added, amount_at, at_most, one_at, times};
+ghost use Rattle.std.specs.Prelude.{◌≡◌, ℕ, ◌<◌, ◌≤◌, true, Some};
+ghost use Rattle.rules.specs.Amounts.{added, amount_at, at_most, one_at, printed, times};
 ghost use Rattle.rules.specs.Typing.{sensitivity_bound};
+
+use std::fmt;
 
 // Inputs 0 and 1 are the sources, 2 and 3 the settings.
 #[derive(Clone, Copy, PartialEq, Eq, Debug)]
@@ -33,16 +35,24 @@ impl Amounts {
         }
     }
 
+    // What `f` gives for each input.
+    fn from_fn<F: Fn(usize) -> u64>(f: F) -> Amounts
+        requires { (i : ℕ) → i < 4 → F.pre f i }
+        ensures { (i : ℕ) → i < 4 → F.post f i (amount_at result i) }
+    {
+        Amounts {
+            source_0: f(0),
+            source_1: f(1),
+            setting_0: f(2),
+            setting_1: f(3),
+        }
+    }
+
     // 1 at an input.
     pub fn one_at(input: usize) -> Amounts
         ensures { result ≡ one_at input }
     {
-        Amounts {
-            source_0: u64::from(input == 0),
-            source_1: u64::from(input == 1),
-            setting_0: u64::from(input == 2),
-            setting_1: u64::from(input == 3),
-        }
+        Amounts::from_fn(|i| u64::from(i == input))
     }
 
     // The sum at each input.
@@ -51,12 +61,7 @@ impl Amounts {
         requires second { at_most sensitivity_bound other ≡ true }
         ensures { result ≡ added self other }
     {
-        Amounts {
-            source_0: self.source_0 + other.source_0,
-            source_1: self.source_1 + other.source_1,
-            setting_0: self.setting_0 + other.setting_0,
-            setting_1: self.setting_1 + other.setting_1,
-        }
+        Amounts::from_fn(|input| self.at(input) + other.at(input))
     }
 
     // The multiple at each input.
@@ -65,21 +70,26 @@ impl Amounts {
         requires amounts { at_most sensitivity_bound self ≡ true }
         ensures { result ≡ times factor self }
     {
-        Amounts {
-            source_0: factor * self.source_0,
-            source_1: factor * self.source_1,
-            setting_0: factor * self.setting_0,
-            setting_1: factor * self.setting_1,
-        }
+        Amounts::from_fn(|input| factor * self.at(input))
     }
 
     // Whether none is above the bound.
     pub fn are_at_most(self, bound: u64) -> bool
         ensures { result ≡ at_most bound self }
     {
-        self.source_0 <= bound
-            && self.source_1 <= bound
-            && self.setting_0 <= bound
-            && self.setting_1 <= bound
+        (0..4).all(|input| self.at(input) <= bound)
+    }
+}
+
+// As `1 0 0 2`, in the order of the inputs.
+impl fmt::Display for Amounts {
+    ghost output = { λ a. Some (printed a) };
+
+    fn fmt<W: fmt::Write>(&self, f: &mut fmt::Formatter<W>) -> fmt::Result {
+        write!(
+            f,
+            "{} {} {} {}",
+            self.source_0, self.source_1, self.setting_0, self.setting_1
+        )
     }
 }

@@ -1,7 +1,8 @@
 // What a query is checked against: the shapes of both sources and the ranges of both settings.
-ghost use Rattle.std.specs.Prelude.{◌≡◌, ◌<◌};
-ghost use Rattle.rules.specs.Catalogue.{faulty_input, input_sound, setting_sound, source_sound};
+ghost use Rattle.std.specs.Prelude.{◌≡◌};
+ghost use Rattle.rules.specs.Catalogue.{faulty_input, setting_sound, source_sound};
 
+use crate::ranges::is_bounded;
 use sources::{Range, Shape};
 
 // The ends of a setting's range lie within plus and minus this.
@@ -19,23 +20,15 @@ impl Catalogue {
     pub fn faulty_input(&self) -> Option<usize>
         ensures { result ≡ faulty_input self.now }
     {
-        for input in 0..4 {
-            if !self.is_sound_at(input) {
-                return Some(input);
-            }
-        }
-        None
-    }
-
-    fn is_sound_at(&self, input: usize) -> bool
-        requires { input < 4 }
-        ensures { result ≡ input_sound self.now input }
-    {
-        if input < 2 {
-            is_source_sound(&self.sources[input])
-        } else {
-            is_setting_sound(self.settings[input - 2])
-        }
+        let source = self
+            .sources
+            .iter()
+            .position(|shape| !is_source_sound(shape));
+        let setting = self
+            .settings
+            .iter()
+            .position(|range| !is_setting_sound(*range));
+        source.or(setting.map(|k| 2 + k))
     }
 }
 
@@ -49,7 +42,5 @@ fn is_source_sound(shape: &Shape) -> bool
 fn is_setting_sound(range: Range) -> bool
     ensures { result ≡ setting_sound range }
 {
-    range.low.unsigned_abs() <= SETTING_BOUND
-        && range.high.unsigned_abs() <= SETTING_BOUND
-        && range.low <= range.high
+    is_bounded(SETTING_BOUND, range) && range.low <= range.high
 }

@@ -1,7 +1,6 @@
 // Ranges of values: what an operation makes of the ranges of its parts. The bounds of the rules keep every end within 64 bits.
-ghost use Rattle.std.specs.Prelude.{◌≡◌, ◌*◌, ◌^◌, ◌<◌, ◌≤◌, true, pos, ◌+ℤ◌, ◌-ℤ◌, ◌*ℤ◌, unsigned_abs};
+ghost use Rattle.std.specs.Prelude.{◌≡◌, ◌*◌, ◌^◌, ◌<◌, ◌≤◌, true, unsigned_abs};
 ghost use Rattle.forms.specs.Limits.{number_bound, term_bound};
-ghost use Rattle.sources.specs.Shapes.{range};
 ghost use Rattle.sources.specs.Unions.{hull};
 ghost use Rattle.trees.specs.Size.{literal_bound};
 ghost use Rattle.rules.specs.Ranges.{bounded, clips, counts, differences, greater, lesser, most_rows, point, products, scaled, sums, totals};
@@ -24,8 +23,8 @@ pub fn sums(a: Range, b: Range) -> Range
     ensures { result ≡ sums a b }
 {
     Range {
-        low: sum(a.low, b.low),
-        high: sum(a.high, b.high),
+        low: a.low + b.low,
+        high: a.high + b.high,
     }
 }
 
@@ -35,8 +34,8 @@ pub fn differences(a: Range, b: Range) -> Range
     ensures { result ≡ differences a b }
 {
     Range {
-        low: difference(a.low, b.high),
-        high: difference(a.high, b.low),
+        low: a.low - b.high,
+        high: a.high - b.low,
     }
 }
 
@@ -56,6 +55,7 @@ pub fn scaled(factor: i64, a: Range) -> Range
     multiples(factor, a)
 }
 
+// Both ends are written out in `sums`, here and in `greater`: a function that took what is done at an end, with its contract, would be longer than what it saves.
 pub fn lesser(a: Range, b: Range) -> Range
     ensures { result ≡ lesser a b }
 {
@@ -111,7 +111,12 @@ pub fn totals(rows: usize, low: i64, high: i64) -> Range
     requires high { unsigned_abs high ≤ literal_bound }
     ensures { result ≡ totals rows low high }
 {
-    hull(Range::ZERO, of_rows(rows, low, high))
+    let n = rows as i64;
+    let all = Range {
+        low: n * low,
+        high: n * high,
+    };
+    hull(Range::ZERO, all)
 }
 
 // Whether both ends are within the bound of 0.
@@ -126,46 +131,9 @@ fn multiples(factor: i64, a: Range) -> Range
     requires high { unsigned_abs factor * unsigned_abs a.high < 2 ^ 63 }
     ensures { result ≡ scaled factor a }
 {
-    let (x, y) = (product(factor, a.low), product(factor, a.high));
+    let (x, y) = (factor * a.low, factor * a.high);
     Range {
         low: x.min(y),
         high: x.max(y),
     }
-}
-
-// So many times low, and so many times high.
-fn of_rows(rows: usize, low: i64, high: i64) -> Range
-    requires rows { rows ≤ most_rows }
-    requires low { unsigned_abs low ≤ literal_bound }
-    requires high { unsigned_abs high ≤ literal_bound }
-    ensures { result ≡ range (pos rows *ℤ low) (pos rows *ℤ high) }
-{
-    let n = rows as i64;
-    Range {
-        low: product(n, low),
-        high: product(n, high),
-    }
-}
-
-fn sum(x: i64, y: i64) -> i64
-    requires first { unsigned_abs x ≤ number_bound }
-    requires second { unsigned_abs y ≤ number_bound }
-    ensures { result ≡ x +ℤ y }
-{
-    x + y
-}
-
-fn difference(x: i64, y: i64) -> i64
-    requires first { unsigned_abs x ≤ number_bound }
-    requires second { unsigned_abs y ≤ number_bound }
-    ensures { result ≡ x -ℤ y }
-{
-    x - y
-}
-
-fn product(x: i64, y: i64) -> i64
-    requires { unsigned_abs x * unsigned_abs y < 2 ^ 63 }
-    ensures { result ≡ x *ℤ y }
-{
-    x * y
 }

@@ -1,37 +1,39 @@
--- Lists over indices: how a loop fills them, one element replaced, and two lists joined by their hulls.
-use Rattle.std.proofs.Common.{◌≡◌, ℕ, ◌+◌, ◌<◌, List, [], ◌∷◌, map, length, get_or, set, sym, refl, ap, ◌∙◌, subst, ⊎_elim, arith}
+-- Lists over indices: how `array::from_fn` fills them, one element replaced, and two lists joined by their hulls.
+use Rattle.std.proofs.Common.{◌≡◌, ℕ, zero, suc, ◌+◌, ◌<◌, ◌≤◌, List, [], ◌∷◌, map, length, get_or, set, sym, refl, ap, ◌∙◌, subst, ⊎_elim, arith}
 use Rattle.sources.specs.Indexed.{listed, listed_at}
 use Rattle.sources.specs.Shapes.{columns_of}
 use Rattle.sources.specs.Unions.{hull, hulls}
 use Rattle.sources.specs.declared.shapes.Range.{Range}
 use Rattle.sources.specs.declared.shapes.Shape.{Shape}
 use Rattle.std.proofs.lemmas.List.FromFn.{fill_by_all, length-map-range_with_len}
-use Rattle.std.proofs.lemmas.List.Edits.{fill_by_more}
 use Rattle.std.proofs.lemmas.List.{get_or-set_other, get_or-set_same, length-set}
 use Rattle.std.proofs.lemmas.Bool.{cases_eq}
+use Rattle.std.specs.Array.{IsFromFnResultFrom}
+use Rattle.std.specs.Fn.{Called}
 use Rattle.std.specs.List.{range_with_len}
+use denote.Param.Members.{Mut}
 
 pub length_columns : (s : Shape) → length (columns_of s) ≡ s.width
 length_columns s = length-map-range_with_len _ 0 s.width
 
--- a loop that writes f k at each place k of n
-pub filled_more : {X : Type 0} (f : ℕ → X) (xs : List X) (n i : ℕ) (x d : X) → i < n → x ≡ f i → (length xs ≡ n) × ((k : ℕ) → k < i → get_or xs k d ≡ f k) → (length (set xs i x) ≡ n) × ((k : ℕ) → k < i + 1 → get_or (set xs i x) k d ≡ f k)
-filled_more f xs n i x d h same (long, below) = (length-set xs i x ∙ long, rw same (fill_by_more f xs i d (omega arith) below))
+-- what `array::from_fn` makes by a closure that computes h of the index
+pub made_at : {F X : Type 0} (g : Mut F (ℕ × Unit {0}) X) (h : ℕ → X) (f : F) (ys : List X) (i n : ℕ) (d : X) → IsFromFnResultFrom g f ys i n → ((k : ℕ) (y : X) (q : F) → i ≤ k → k < i + n → Called g f (k, tt) y q → (q ≡ f) × (y ≡ h k)) → (k : ℕ) → i ≤ k → k < i + n → get_or ys k d ≡ h k
+made_at g h f ys i zero d made call k low high = absurd (omega arith)
+made_at {F} g h f ys i (suc n) d (q, y, at, called, rest) call k low high =
+    let (same, is) = call i y q (omega arith) (omega arith) called in
+    ⊎_elim
+    (λ here. subst (λ j. get_or ys j d ≡ h j) (sym here) (at.1 d ∙ is))
+    (λ other. made_at g h f ys (i + 1) n d (subst (λ (p : F). IsFromFnResultFrom g p ys (i + 1) n) same rest) (λ j z p l m. call j z p (omega arith) (omega arith)) k (omega arith) (omega arith))
+    (cases_eq k i)
 
 pub listed_same : {X : Type 0} (f g : ℕ → X) (n : ℕ) (d : X) → ((k : ℕ) → k < n → f k ≡ g k) → listed f n ≡ listed g n
 listed_same f g n d same = fill_by_all g (listed f n) n d (length-map-range_with_len f 0 n) (λ k h. listed_at f n k d h ∙ same k h)
 
-module _ {X : Type 0} (xs : List X) (n j : ℕ) (x d : X) (below : j < n) (inside : j < length xs) where
-  set_at : (k : ℕ) → k < n → get_or (set (listed (λ i. get_or xs i d) n) j x) k d ≡ get_or (set xs j x) k d
-  set_at k h =
-      let old = listed (λ i. get_or xs i d) n in
-      ⊎_elim
-      (λ same. subst (λ i. get_or (set old j x) i d ≡ get_or (set xs j x) i d) (sym same) (get_or-set_same old j x d (rw (length-map-range_with_len (λ i. get_or xs i d) 0 n) below) ∙ sym (get_or-set_same xs j x d inside)))
-      (λ other. get_or-set_other old j k x d other ∙ listed_at (λ i. get_or xs i d) n k d h ∙ sym (get_or-set_other xs j k x d other))
-      (cases_eq k j)
-
-  pub set_listed : listed (λ i. get_or (set xs j x) i d) n ≡ set (listed (λ i. get_or xs i d) n) j x
-  set_listed = sym (fill_by_all (λ i. get_or (set xs j x) i d) (set (listed (λ i. get_or xs i d) n) j x) n d (length-set _ j x ∙ length-map-range_with_len _ 0 n) set_at)
+pub set_listed : {X : Type 0} (xs : List X) (n j : ℕ) (x d : X) → j < n → j < length xs → listed (λ i. get_or (set xs j x) i d) n ≡ set (listed (λ i. get_or xs i d) n) j x
+set_listed xs n j x d below inside =
+    let old = listed (λ i. get_or xs i d) n in
+    let long : length old ≡ n = length-map-range_with_len (λ i. get_or xs i d) 0 n in
+    sym (fill_by_all (λ i. get_or (set xs j x) i d) (set old j x) n d (length-set old j x ∙ long) (λ k h. grind (arith, get_or-set_same, get_or-set_other, listed_at (λ i. get_or xs i d) n k d h, cases_eq k j)))
 
 hulls_map : {X : Type 0} (f g : X → Range) (xs : List X) → map (λ x. hull (f x) (g x)) xs ≡ hulls (map f xs) (map g xs)
 hulls_map f g [] = refl

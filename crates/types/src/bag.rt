@@ -13,11 +13,12 @@ ghost use Rattle.types.specs.Shown.{BagGood, bag_shown};
 
 use crate::fault::RuleFault;
 use crate::limits::SENSITIVITY_BOUND;
-use crate::place::place;
+use crate::place::place_in_scope;
 use rules::amounts::Amounts;
 use rules::catalogue::Catalogue;
 use rules::ranges::hull;
 use sources::{MAX_WIDTH, Range, Shape};
+use std::array;
 
 // Of the shape's columns the first `width` count. Its limit may be that of several sources together.
 #[derive(Clone, Copy)]
@@ -32,38 +33,34 @@ impl TypedBag {
         ensures value { told bag_shown result ≡ settle (scope_rule line (place 2 source)) (source_type catalogue.now (index source)) }
         ensures good { faulty_input catalogue.now ≡ None → IfOk result (BagGood max_rows) }
     {
-        match place(source, 2) {
-            Some(k) => Ok(TypedBag::whole(catalogue, k)),
-            None => Err(RuleFault::OutOfScope { line }),
-        }
+        let source = place_in_scope(source, 2, line)?;
+        Ok(TypedBag::whole(catalogue, source))
     }
 
-    // One column has another range.
+    // One column has another range. The array has to have the width: no field promises it, since `of_source` answers for a faulty catalogue too.
+    #[tactic(auto, using(crate::proofs::Columns::length_columns))]
     pub fn with_column(&self, at: i64, range: Range, line: usize) -> Result<TypedBag, RuleFault>
         requires { self.now.shape.width ≤ max_width }
         ensures value { told bag_shown result ≡ settle (scope_rule line (place (length (columns_of self.now.shape)) at)) (replaced (bag_shown self.now) (index at) range) }
         ensures kept { IfOk result (λ x. (x.shape.width ≡ self.now.shape.width) × (x.shape.limit ≡ self.now.shape.limit) × (x.inputs ≡ self.now.inputs)) }
     {
-        match place(at, width(&self.shape)) {
-            Some(j) => Ok(TypedBag {
-                shape: replaced(&self.shape, j, range),
-                inputs: self.inputs,
-            }),
-            None => Err(RuleFault::OutOfScope { line }),
-        }
+        let at = place_in_scope(at, self.shape.width, line)?;
+        Ok(TypedBag {
+            shape: replaced(&self.shape, at, range),
+            inputs: self.inputs,
+        })
     }
 
     // The rows of both.
+    #[tactic(auto, using(crate::proofs::Columns::length_columns))]
     pub fn pooled(&self, other: &TypedBag, line: usize) -> Result<TypedBag, RuleFault>
-        requires first_narrow { self.now.shape.width ≤ max_width }
-        requires second_narrow { other.now.shape.width ≤ max_width }
         requires rows { self.now.shape.limit + other.now.shape.limit ≤ most_rows }
         requires first_small { at_most sensitivity_bound self.now.inputs ≡ true }
         requires second_small { at_most sensitivity_bound other.now.inputs ≡ true }
         ensures value { told bag_shown result ≡ settle (or_else (scope_rule line (length (columns_of self.now.shape) == length (columns_of other.now.shape))) (bag_rule line (pooled (bag_shown self.now) (bag_shown other.now)))) (pooled (bag_shown self.now) (bag_shown other.now)) }
         ensures kept { IfOk result (λ x. (x.shape.width ≡ self.now.shape.width) × (x.shape.limit ≡ self.now.shape.limit + other.now.shape.limit) × (at_most sensitivity_bound x.inputs ≡ true)) }
     {
-        if width(&self.shape) != width(&other.shape) {
+        if self.shape.width != other.shape.width {
             return Err(RuleFault::OutOfScope { line });
         }
         let inputs = self.inputs.added(other.inputs);
@@ -104,48 +101,30 @@ fn front(columns: &[Range; MAX_WIDTH], width: usize) -> &[Range]
     &columns[..width]
 }
 
-fn width(shape: &Shape) -> usize
-    ensures { result ≡ length (columns_of shape.now) }
-{
-    shape.width
-}
-
 // A shape, one column of which has another range.
 fn replaced(shape: &Shape, at: usize, range: Range) -> Shape
     requires narrow { shape.now.width ≤ max_width }
-    requires inside { at < length (columns_of shape.now) }
+    requires inside { at < shape.now.width }
     ensures width { result.width ≡ shape.now.width }
     ensures limit { result.limit ≡ shape.now.limit }
     ensures columns { columns_of result ≡ slice_set (columns_of shape.now) at range }
 {
-    let mut columns = [Range::ZERO; MAX_WIDTH];
-    for j in 0..shape.width {
-        columns[j] = shape.columns[j];
-    }
+    let mut columns = shape.columns;
     columns[at] = range;
-    Shape {
-        width: shape.width,
-        limit: shape.limit,
-        columns,
-    }
+    Shape { columns, ..*shape }
 }
 
 // The shape of the rows of both.
 fn united(a: &Shape, b: &Shape) -> Shape
-    requires narrow { a.now.width ≤ max_width }
-    requires same { length (columns_of a.now) ≡ length (columns_of b.now) }
+    requires same { a.now.width ≡ b.now.width }
     requires rows { a.now.limit + b.now.limit ≤ most_rows }
     ensures width { result.width ≡ a.now.width }
     ensures limit { result.limit ≡ a.now.limit + b.now.limit }
     ensures columns { columns_of result ≡ hulls (columns_of a.now) (columns_of b.now) }
 {
-    let mut columns = [Range::ZERO; MAX_WIDTH];
-    for j in 0..a.width {
-        columns[j] = hull(a.columns[j], b.columns[j]);
-    }
     Shape {
         width: a.width,
         limit: a.limit + b.limit,
-        columns,
+        columns: array::from_fn(|j| hull(a.columns[j], b.columns[j])),
     }
 }

@@ -1,24 +1,25 @@
-use Rattle.std.proofs.Common.{pos, sym, refl, ap, ◌∙◌, arith}
+use Rattle.std.proofs.Common.{◌≡◌, ℕ, length, pos, sym, ap, ◌∙◌, ap₂, inl, inr, arith, rules, tests}
+use Rattle.std.proofs.lemmas.Bool.{cases_lt}
+use Rattle.std.proofs.lemmas.List.{get_or_past}
 use Rattle.sources.specs.Indexed.{listed}
-use Rattle.sources.specs.Shapes.{column, columns_of, max_width, range}
+use Rattle.sources.specs.Shapes.{column, columns_of, range}
 use Rattle.sources.specs.Unions.{hull, hulls}
-use Rattle.types.proofs.Columns.{filled_more, hulls_listed, length_columns}
+use Rattle.types.proofs.Columns.{hulls_listed, made_at}
 use Rattle.types.proofs.bag.united.Goals as goal
 
-pub loop-j-preserved : goal.loop-j-preserved
-loop-j-preserved c =
+pub returns-clause-columns : goal.returns-clause-columns
+returns-clause-columns c =
     let a = c.args.a.now in
     let b = c.args.b.now in
-    filled_more (λ k. hull (column a.columns k) (column b.columns k)) c.loop-j.columns max_width c.loop-j.j c.hull.result (range (pos 0) (pos 0)) (omega (arith, c.loop-j-test.true, c.requires.narrow)) c.hull.ensures c.loop-j.invariant
-
-pub returns : goal.returns
-returns c =
-    let a = c.args.a.now in
-    let b = c.args.b.now in
-    let one_Width = sym (length_columns a) ∙ c.requires.same ∙ length_columns b in
-    record {
-      width = refl;
-      limit = refl;
-      columns = hulls_listed (column a.columns) (column b.columns) (column c.loop-j.columns) a.width (range (pos 0) (pos 0)) (λ k h. c.loop-j.invariant.1 k (omega (arith, c.loop-j-test.false)))
-          ∙ ap (λ w. hulls (columns_of a) (listed (column b.columns) w)) one_Width;
-    }
+    let made = c.from_fn.result in
+    let none = range (pos 0) (pos 0) in
+    let joined = λ (k : ℕ). hull (column a.columns k) (column b.columns k) in
+    let six : length a.columns ≡ 6 = search rules in
+    let other_six : length b.columns ≡ 6 = search rules in
+    hulls_listed (column a.columns) (column b.columns) (column made) a.width none
+    (λ k h.
+    elim (cases_lt k 6) [
+      | inl below ↦ made_at _ joined _ made 0 6 none c.from_fn.ensures.items.each (λ i y q l m e. search (rules, tests)) k (omega arith) (omega arith)
+      | inr past ↦ get_or_past made k none (omega (arith, c.from_fn.ensures.items.long)) ∙ sym (ap₂ hull (get_or_past a.columns k none (omega arith)) (get_or_past b.columns k none (omega arith)))
+    ])
+    ∙ ap (λ w. hulls (columns_of a) (listed (column b.columns) w)) c.requires.same

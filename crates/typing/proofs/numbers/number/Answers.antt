@@ -1,4 +1,4 @@
-use Rattle.std.proofs.Common.{◌≡◌, ℕ, ◌+◌, ◌≤◌, List, ◌++◌, length, take, drop, sym, ap, ◌∙◌, subst, arith}
+use Rattle.std.proofs.Common.{◌≡◌, ◌+◌, ◌≤◌, List, ◌++◌, length, take, drop, subst, arith}
 use Rattle.forms.specs.Limits.{room}
 use Rattle.rules.specs.Typing.{number_typed}
 use Rattle.stacks.specs.Stack.{spare, stacked}

@@ -212,7 +212,7 @@ draft_bag-pooled-requires t c =
     let i = of_pool c.requires.3 c.in-Pool.first c.in-Pool.second (c.in-Pool.ensures.value no_entry) c.in-Pool.ensures.stands in
     let x = (c.in_ok-x-in-Pool.ensures (c.requires.0 + 1) (c.requires.1 + 1) i.a i.first).2 in
     let y = (c.in_ok-y-in-Pool.ensures (past (c.requires.0 + 1) i.a) (c.requires.1 + 1 + size i.a) i.b i.second).2 in
-    record { first_narrow = x.narrow; second_narrow = y.narrow; rows = omega (arith, x.few, y.few, i.second.room); first_small = x.small; second_small = y.small }
+    record { rows = omega (arith, x.few, y.few, i.second.room); first_small = x.small; second_small = y.small }
 
 pub draft_bag-returns-in_ok-y-in-Pool : goal.draft_bag-returns-in_ok-y-in-Pool
 draft_bag-returns-in_ok-y-in-Pool t c =

@@ -1,7 +1,0 @@
-use Rattle.std.proofs.Common.{◌≡◌, ℕ, ◌<◌, length}
-use Rattle.sources.specs.Shapes.{column, max_width}
-use Rattle.sources.specs.Unions.{hull}
-use Rattle.types.proofs.bag.united.Given as goal
-
-abbrev pub invariant-loop-j : goal.invariant-loop-j
-invariant-loop-j l = (length l.columns ≡ max_width) × ((k : ℕ) → k < l.j → column l.columns k ≡ hull (column l.a.columns k) (column l.b.columns k))
