@@ -1,6 +1,5 @@
 pub mod Adding
 pub mod Below
-pub mod Copies
 pub mod Fits
 pub mod Onto
 pub mod Partial

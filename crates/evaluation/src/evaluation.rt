@@ -8,8 +8,8 @@ ghost use Rattle.trees.specs.Meaning.{number};
 ghost use Rattle.evaluation.specs.Plants.{plant_of};
 ghost use Rattle.evaluation.specs.Queries.{Evaluable};
 
+use crate::asked::Asked;
 use crate::plant::Plant;
-use crate::totals::totals_of;
 use forms::form::Entry;
 use forms::numbers::Figures;
 use forms::scope::Scope;
@@ -26,7 +26,8 @@ pub fn evaluate<A: Source, B: Source>(entries: &[Entry], plant: &Plant<A, B>) ->
 {
     // A law that the totals rest on; the call does nothing.
     rules_keep_values_in_range();
-    let totals = totals_of(entries, plant);
+    let asked = Asked { entries, plant };
+    let totals = asked.totals();
     let settings = plant.settings;
     let figures = Figures {
         entries,

@@ -41,15 +41,9 @@ fn check_plant<A: Source, B: Source>(
 fn has_shape<S: Source>(source: &S, shape: &Shape) -> bool
     ensures { result ≡ same_shape shape.now (S.Source.meaning source.now) }
 {
-    if source.width() != shape.width || source.limit() != shape.limit {
-        return false;
-    }
-    for j in 0..shape.width {
-        if !has_range(source, j, shape.columns[j]) {
-            return false;
-        }
-    }
-    true
+    source.width() == shape.width
+        && source.limit() == shape.limit
+        && (0..shape.width).all(|j| has_range(source, j, shape.columns[j]))
 }
 
 fn has_range<S: Source>(source: &S, j: usize, range: Range) -> bool
@@ -61,10 +55,8 @@ fn has_range<S: Source>(source: &S, j: usize, range: Range) -> bool
 fn check_settings(catalogue: &Catalogue, settings: &[i64; 2]) -> Result<(), PlantFault>
     ensures { reason plant_refusal result ≡ settings_rule catalogue.now settings.now }
 {
-    for k in 0..2 {
-        if !catalogue.settings[k].holds(settings[k]) {
-            return Err(PlantFault::Setting { setting: k });
-        }
+    match (0..2).find(|&k| !catalogue.settings[k].holds(settings[k])) {
+        Some(setting) => Err(PlantFault::Setting { setting }),
+        None => Ok(()),
     }
-    Ok(())
 }

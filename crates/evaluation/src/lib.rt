@@ -2,6 +2,7 @@
 #![tactic(auto)]
 
 mod addends;
+mod asked;
 mod evaluation;
 mod fitting;
 mod laws;

@@ -24,16 +24,8 @@ impl Fault for PlantFault {
 
     fn refusal(&self) -> Refusal {
         match *self {
-            PlantFault::Shape { source } => Refusal {
-                number: 24,
-                first: source,
-                second: 0,
-            },
-            PlantFault::Setting { setting } => Refusal {
-                number: 25,
-                first: setting,
-                second: 0,
-            },
+            PlantFault::Shape { source } => Refusal::new(24, source, 0),
+            PlantFault::Setting { setting } => Refusal::new(25, setting, 0),
         }
     }
 }

@@ -16,7 +16,7 @@ use forms::limits::ROOM;
 use rules::ranges::{hull, is_bounded, point, products, sums};
 use sources::Range;
 use types::fault::RuleFault;
-use types::place::place;
+use types::place::place_in_scope;
 
 // How far from 0 a term's value may lie.
 const TERM_BOUND: u64 = 1_000_000_000;
@@ -149,6 +149,6 @@ fn settle_term(range: Range, line: usize) -> Result<(), RuleFault>
 fn column_range(columns: &[Range], at: i64, line: usize) -> Result<Range, RuleFault>
     ensures { told (λ x. x) result ≡ settle (scope_rule line (place (length columns.now) at)) (column columns.now (index at)) }
 {
-    let j = place(at, columns.len()).ok_or(RuleFault::OutOfScope { line })?;
+    let j = place_in_scope(at, columns.len(), line)?;
     Ok(columns[j])
 }

@@ -13,7 +13,7 @@ ghost use Rattle.types.specs.Shown.{number_shown};
 use super::TypedNumber;
 use crate::bag::TypedBag;
 use crate::fault::RuleFault;
-use crate::place::place;
+use crate::place::place_in_scope;
 use crate::variables::Variables;
 use crate::weights::Weights;
 use rules::amounts::Amounts;
@@ -40,7 +40,7 @@ impl TypedNumber {
     ) -> Result<TypedNumber, RuleFault>
         ensures { (v : Stack Range max_depth) → told (number_shown (spare v)) result ≡ settle (scope_rule line (place 2 setting)) (unbound (stacked v) (setting_range catalogue.now (index setting)) (one_at (2 + index setting))) }
     {
-        let k = place(setting, 2).ok_or(RuleFault::OutOfScope { line })?;
+        let k = place_in_scope(setting, 2, line)?;
         Ok(TypedNumber::unbound(catalogue.settings[k], Amounts::one_at(2 + k)))
     }
 
@@ -48,7 +48,7 @@ impl TypedNumber {
     pub fn of_variable(scope: &Variables, at: i64, line: usize) -> Result<TypedNumber, RuleFault>
         ensures { told (number_shown (spare scope.now)) result ≡ settle (scope_rule line (place (length (stacked scope.now)) at)) (variable (stacked scope.now) (index at)) }
     {
-        let i = place(at, scope.len()).ok_or(RuleFault::OutOfScope { line })?;
+        let i = place_in_scope(at, scope.len(), line)?;
         Ok(TypedNumber {
             range: scope.as_slice()[i],
             inputs: Amounts::NONE,

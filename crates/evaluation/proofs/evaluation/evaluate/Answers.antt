@@ -11,12 +11,12 @@ use Rattle.evaluation.specs.Sums.{sources_of}
 use Rattle.evaluation.proofs.Ready.{all_typed, ready, two_settings}
 use Rattle.evaluation.proofs.evaluation.evaluate.Goals as goal
 
-pub totals_of-totals-requires : goal.totals_of-totals-requires
-totals_of-totals-requires g c =
+pub totals-totals-requires : goal.totals-totals-requires
+totals-totals-requires g c =
     let plant = c.args.plant.now in
     let p = plant_of g.A.Source.meaning g.B.Source.meaning plant in
     let (t, h) = c.requires.typed in
-    record { few = c.requires.few; typed = all_typed c.args.entries.now p t h (c.rules_keep_values_in_range.ensures.keep h.catalogue p h.fits) }
+    all_typed c.args.entries.now p t h (c.rules_keep_values_in_range.ensures.keep h.catalogue p h.fits)
 
 pub overflow_sub-entries : goal.overflow_sub-entries
 overflow_sub-entries g c =
@@ -33,7 +33,7 @@ number-requires g c =
     let two : length plant.settings ≡ 2 = search rules in
     record {
       spare = omega (arith, c.new.ensures.spare, c.requires.few);
-      ready = (sources_of p, t, ready es p t h (c.rules_keep_values_in_range.ensures.keep h.catalogue p h.fits) c.totals_of-totals.result plant.settings (stacked c.new.result) (two_settings plant.settings two) c.new.ensures.items c.totals_of-totals.ensures);
+      ready = (sources_of p, t, ready es p t h (c.rules_keep_values_in_range.ensures.keep h.catalogue p h.fits) c.totals-totals.result plant.settings (stacked c.new.result) (two_settings plant.settings two) c.new.ensures.items c.totals-totals.ensures);
     }
 
 pub returns : goal.returns
@@ -44,7 +44,7 @@ returns g c =
     let (t, h) = c.requires.typed in
     let two : length plant.settings ≡ 2 = search rules in
     let r = c.number.result in
-    let value = c.number.ensures (sources_of p) t (ready es p t h (c.rules_keep_values_in_range.ensures.keep h.catalogue p h.fits) c.totals_of-totals.result plant.settings (stacked c.new.result) (two_settings plant.settings two) c.new.ensures.items c.totals_of-totals.ensures) in
+    let value = c.number.ensures (sources_of p) t (ready es p t h (c.rules_keep_values_in_range.ensures.keep h.catalogue p h.fits) c.totals-totals.result plant.settings (stacked c.new.result) (two_settings plant.settings two) c.new.ensures.items c.totals-totals.ensures) in
     for_all numbers (λ _. Unit {0}) (λ (u : NumberTree). number u (inputs_of p) []) es (length es - 1) (t, h.spells.is, tt) _
     (to_z-of_z w64 r (record { sfits = c.number.type_inv })
     ∙ value

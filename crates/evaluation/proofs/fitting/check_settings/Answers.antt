@@ -1,30 +1,31 @@
-use Rattle.std.proofs.Common.{◌≡◌, ◌-◌, Bool, get_or, pos, sym, ap, ◌∙◌, arith, w64, SFits, rules}
-use Rattle.refusals.specs.Rules.{first_of, first_of_found, first_of_next, refusal, unless}
+use Rattle.std.proofs.Common.{◌≡◌, ℕ, Bool, true, false, not, cond, get_or, pos, Some, None, Option, refl, ap, rules, tests}
+use Rattle.std.proofs.lemmas.Iterator.{YieldsList-from_range}
+use Rattle.std.proofs.lemmas.Iterator.Search.{find_from_yields_List}
+use Rattle.std.specs.List.{find, range_with_len}
+use Rattle.std.specs.Option.{option_map}
+use Rattle.refusals.specs.Rules.{or_else, refusal, unless}
+use Rattle.refusals.specs.declared.Refusal.{Refusal}
 use Rattle.rules.specs.Catalogue.{setting_range}
 use Rattle.sources.specs.Shapes.{within}
-use Rattle.std.proofs.lemmas.Int.{to_z-of_z}
-use Rattle.evaluation.specs.Fits.{setting_rule}
 use Rattle.evaluation.proofs.fitting.check_settings.Goals as goal
 
-pub returns-then-not-holds : goal.returns-then-not-holds
-returns-then-not-holds c =
-    let k = c.loop-k.k in
-    let range = setting_range c.args.catalogue.now k in
-    let z = get_or c.args.settings.now k (pos 0) in
-    let fits : SFits w64 z = search rules in
-    let place = refusal 25 k 0 in
-    first_of_found (setting_rule c.args.catalogue.now c.args.settings.now) 2 k c.loop-k-test.true c.loop-k.invariant place (ap (λ (b : Bool). unless b place) (c.if-not-holds.ensures ∙ ap (within range) (to_z-of_z w64 z fits)))
+abbrev place : ℕ → Refusal
+place k = refusal 25 k 0
 
-pub loop-k-preserved : goal.loop-k-preserved
-loop-k-preserved c =
-    let k = c.loop-k.k in
-    let range = setting_range c.args.catalogue.now k in
-    let z = get_or c.args.settings.now k (pos 0) in
-    let fits : SFits w64 z = search rules in
-    let place = refusal 25 k 0 in
-    first_of_next (setting_rule c.args.catalogue.now c.args.settings.now) 2 k c.loop-k-test.true c.loop-k.invariant (ap (λ (b : Bool). unless b place) (c.if-not-holds.ensures ∙ ap (within range) (to_z-of_z w64 z fits)))
+-- the first of two that fails, and what is told of it
+first : (o : Option ℕ) (t u : Bool) → o ≡ cond (not t) (Some 0) (cond (not u) (Some 1) None) → option_map place o ≡ or_else (unless t (place 0)) (or_else (unless u (place 1)) None)
+first o true true e = ap (option_map place) e
+first o true false e = ap (option_map place) e
+first o false u e = ap (option_map place) e
 
-pub returns : goal.returns
-returns c =
-    let none : 2 - c.loop-k.k ≡ 0 = omega (arith, c.loop-k-test.false) in
-    sym (ap (first_of (setting_rule c.args.catalogue.now c.args.settings.now) c.loop-k.k) none) ∙ c.loop-k.invariant
+pub returns-in-Some : goal.returns-in-Some
+returns-in-Some c =
+    let holds = λ (k : ℕ). within (setting_range c.args.catalogue.now k) (get_or c.args.settings.now k (pos 0)) in
+    let found : option_map (λ (x : ℕ). x) c.find.result ≡ find (λ k. not (holds k)) (range_with_len 0 2) = find_from_yields_List (λ k. not (holds k)) _ _ _ c.find.ensures.ran (YieldsList-from_range 0 2 2 refl refl) (λ x b f k. search (rules, tests)) in
+    first (Some c.in-Some.setting) (holds 0) (holds 1) (rw c.in-Some.is at found)
+
+pub returns-in-None : goal.returns-in-None
+returns-in-None c =
+    let holds = λ (k : ℕ). within (setting_range c.args.catalogue.now k) (get_or c.args.settings.now k (pos 0)) in
+    let found : option_map (λ (x : ℕ). x) c.find.result ≡ find (λ k. not (holds k)) (range_with_len 0 2) = find_from_yields_List (λ k. not (holds k)) _ _ _ c.find.ensures.ran (YieldsList-from_range 0 2 2 refl refl) (λ x b f k. search (rules, tests)) in
+    first None (holds 0) (holds 1) (rw c.in-None.is at found)

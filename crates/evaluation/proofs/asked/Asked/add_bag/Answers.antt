@@ -9,14 +9,14 @@ use Rattle.evaluation.specs.Addends.{added}
 use Rattle.evaluation.specs.Plants.{plant_of}
 use Rattle.evaluation.specs.Sums.{sources_of}
 use Rattle.evaluation.proofs.Typed.{bag_added, leaf_added, leaf_adds, leaves_of}
-use Rattle.evaluation.proofs.totals.add_bag.Goals as goal
+use Rattle.evaluation.proofs.asked.Asked.add_bag.Goals as goal
 
 pub add_leaf-total-requires : goal.add_leaf-total-requires
 add_leaf-total-requires g c =
-    let es = c.args.entries.now in
-    let plant = c.args.plant.now in
+    let es = c.args.self.now.entries.now in
+    let plant = c.args.self.now.plant.now in
     let p = plant_of g.A.Source.meaning g.B.Source.meaning plant in
-    let h = c.requires.typed in
+    let h = c.requires in
     let n = c.loop-route.nth in
     let found = c.in-Some.ensures h.tree h.is in
     let so_far = c.loop-route.invariant ∙ ap (λ q. leaves_total (added es c.args.addend) (sources_of p) (take n (leaves_of q))) h.is in
@@ -24,10 +24,10 @@ add_leaf-total-requires g c =
 
 pub loop-route-preserved : goal.loop-route-preserved
 loop-route-preserved g c =
-    let es = c.args.entries.now in
-    let plant = c.args.plant.now in
+    let es = c.args.self.now.entries.now in
+    let plant = c.args.self.now.plant.now in
     let p = plant_of g.A.Source.meaning g.B.Source.meaning plant in
-    let h = c.requires.typed in
+    let h = c.requires in
     let n = c.loop-route.nth in
     let found = c.in-Some.ensures h.tree h.is in
     let so_far = c.loop-route.invariant ∙ ap (λ q. leaves_total (added es c.args.addend) (sources_of p) (take n (leaves_of q))) h.is in
@@ -38,21 +38,21 @@ loop-route-preserved g c =
 
 pub loop-route-smaller : goal.loop-route-smaller
 loop-route-smaller g c =
-    let h = c.requires.typed in
+    let h = c.requires in
     omega (arith, (c.in-Some.ensures h.tree h.is).0, ap (λ q. length (leaves_of q)) h.is)
 
 pub overflow_add-nth : goal.overflow_add-nth
 overflow_add-nth g c =
-    let h = c.requires.typed in
-    let below : c.args.bag < 64 = omega (arith, c.requires.few, reached bags (λ _. Unit {0}) c.args.entries.now c.args.bag (h.tree, h.is, tt)) in
+    let h = c.requires in
+    let below : c.args.bag < 64 = omega (arith, c.args.self.now.few, reached bags (λ _. Unit {0}) c.args.self.now.entries.now c.args.bag (h.tree, h.is, tt)) in
     omega (arith, (c.in-Some.ensures h.tree h.is).2, pow-lt below)
 
 pub returns : goal.returns
 returns g c =
-    let es = c.args.entries.now in
-    let plant = c.args.plant.now in
+    let es = c.args.self.now.entries.now in
+    let plant = c.args.self.now.plant.now in
     let p = plant_of g.A.Source.meaning g.B.Source.meaning plant in
-    let h = c.requires.typed in
+    let h = c.requires in
     let n = c.loop-route.nth in
     let so_far = c.loop-route.invariant ∙ ap (λ q. leaves_total (added es c.args.addend) (sources_of p) (take n (leaves_of q))) h.is in
     let end : length (leaves h.tree) ≤ n = c.in_default.ensures h.tree h.is in
