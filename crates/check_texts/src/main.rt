@@ -1,8 +1,8 @@
 // Reads many texts, with `=` between them, checks each under one catalogue, and tells what the rules give it and its forms, or its refusal.
 #![tactic(auto)]
 
-ghost use Rattle.std.specs.Prelude.{◌≡◌, ◌+◌, length};
-ghost use Rattle.check_texts.specs.Shown.{blank, word_of};
+ghost use Rattle.std.specs.Prelude.{◌≡◌};
+ghost use Rattle.check_texts.specs.Shown.{blank};
 ghost use Rattle.std.specs.List.{suffix_len};
 
 use checking::check::check as check_text;
@@ -12,7 +12,7 @@ use rules::catalogue::Catalogue;
 use sources::{Range, Shape};
 use std::io;
 use std::io::Read;
-use typing::note::{Note, NoteKind};
+use typing::note::Note;
 
 // Some more places than a query can have forms.
 const PLACES: usize = 70;
@@ -86,67 +86,37 @@ fn tell_texts(
 fn tell_query(rt: &HostRuntime, query: &Query) -> io::Result<()> {
     let Range { low, high } = query.range();
     let moves = query.sensitivities();
-    println!(rt;
-        "range {low} to {high}, sensitivity {} {} {} {}",
-        moves.source_0, moves.source_1, moves.setting_0, moves.setting_1
-    )
+    println!(rt; "range {low} to {high}, sensitivity {moves}")
 }
 
 fn tell_notes(rt: &HostRuntime, notes: &[Note]) -> io::Result<()> {
-    for note in &notes[0..used(notes)] {
+    for note in &notes[..notes.len() - blank_at_the_end(notes)] {
         tell_note(rt, note)?;
     }
     Ok(())
 }
 
 fn tell_note(rt: &HostRuntime, note: &Note) -> io::Result<()> {
-    let moves = note.sensitivities;
-    println!(rt;
-        "  {} {} {} {} {} {} {}",
-        word(note.kind),
-        note.low,
-        note.high,
-        moves.source_0,
-        moves.source_1,
-        moves.setting_0,
-        moves.setting_1
-    )
+    match note.kind {
+        Some(kind) => print!(rt; "  {kind}")?,
+        None => print!(rt; "  blank")?,
+    }
+    println!(rt; " {} {} {}", note.low, note.high, note.sensitivities)
 }
 
 fn tell_refusal(rt: &HostRuntime, refusal: Refusal) -> io::Result<()> {
-    println!(rt;
-        "refused {} at {} {}",
-        refusal.number, refusal.first, refusal.second
-    )
+    println!(rt; "refused {refusal}")
 }
 
-// How many places there are up to the last that is not blank.
-fn used(notes: &[Note]) -> usize
-    ensures { result + suffix_len blank notes.now ≡ length notes.now }
+// How many blank places stand last.
+fn blank_at_the_end(notes: &[Note]) -> usize
+    ensures { result ≡ suffix_len blank notes.now }
 {
-    let mut places = notes.len();
-    while places > 0 && is_blank(notes[places - 1]) {
-        places -= 1;
-    }
-    places
-}
-
-fn is_blank(note: Note) -> bool
-    ensures { result ≡ blank note }
-{
-    matches!(note.kind, NoteKind::Blank)
-}
-
-fn word(kind: NoteKind) -> &'static str
-    ensures { result.now ≡ word_of kind }
-{
-    match kind {
-        NoteKind::Blank => "blank",
-        NoteKind::Term => "term",
-        NoteKind::Condition => "condition",
-        NoteKind::Bag => "bag",
-        NoteKind::Number => "number",
-    }
+    notes
+        .iter()
+        .rev()
+        .take_while(|note| note.kind.is_none())
+        .count()
 }
 
 #[cfg(test)]

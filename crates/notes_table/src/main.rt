@@ -4,28 +4,12 @@
 use anyhow::anyhow;
 use checking::check::check;
 use checking::query::Query;
+use pans::DAY;
 use refusals::Fault;
 use rules::catalogue::Catalogue;
-use sources::{Range, Shape};
+use sources::Range;
 use std::fs;
-use typing::note::{Note, NoteKind};
-
-// Minute of the day, and density in kilograms per cubic metre, every half hour.
-const DAY: Shape = Shape {
-    width: 2,
-    limit: 48,
-    columns: [
-        Range { low: 0, high: 1439 },
-        Range {
-            low: 1000,
-            high: 1300,
-        },
-        Range::ZERO,
-        Range::ZERO,
-        Range::ZERO,
-        Range::ZERO,
-    ],
-};
+use typing::note::Note;
 
 // Both sources are logs of a day; the settings are a density, and a correction of it.
 const PAN: Catalogue = Catalogue {
@@ -41,18 +25,10 @@ fn tell(rt: &HostRuntime) -> anyhow::Result<()> {
     let mut notes = [Note::BLANK; 64];
     let mut query = Query::new(rt.alloc())?;
     for name in ["under_1180.query", "no_such_column.query"] {
-        let text = read_file(rt, name)?;
+        let text = fs::read(rt, name).map_err(|error| anyhow!("{name} cannot be read: {error}"))?;
         tell_check(rt, name, text.as_slice(), &mut notes, &mut query)?;
     }
     Ok(())
-}
-
-// The bytes of a file, or a message that names it.
-fn read_file(rt: &HostRuntime, name: &str) -> anyhow::Result<Vec<u8>> {
-    match fs::read(rt, name) {
-        Ok(bytes) => Ok(bytes),
-        Err(error) => Err(anyhow!("{name} cannot be read: {error}")),
-    }
 }
 
 fn tell_check(
@@ -64,8 +40,7 @@ fn tell_check(
 ) -> anyhow::Result<()> {
     if let Err(fault) = check(text, &PAN, notes, query) {
         let told = fault.refusal();
-        let (number, first, second) = (told.number, told.first, told.second);
-        println!(rt; "{name} is refused by the check: {number} at {first} {second}.")?;
+        println!(rt; "{name} is refused by the check: {told}.")?;
         return Ok(());
     }
     let (low, high) = (query.range().low, query.range().high);
@@ -78,16 +53,10 @@ fn tell_check(
 }
 
 fn tell_note(rt: &HostRuntime, note: &Note) -> anyhow::Result<()> {
-    let kind = match note.kind {
-        NoteKind::Blank => return Ok(()),
-        NoteKind::Term => "term",
-        NoteKind::Condition => "condition",
-        NoteKind::Bag => "bag",
-        NoteKind::Number => "number",
+    let Some(kind) = note.kind else {
+        return Ok(());
     };
-    let (low, high) = (note.low, note.high);
-    let (a, b) = (note.sensitivities.source_0, note.sensitivities.source_1);
-    let (c, d) = (note.sensitivities.setting_0, note.sensitivities.setting_1);
-    println!(rt; "  {kind:<9} {low:>8} {high:>6}  {a} {b} {c} {d}")?;
+    let (low, high, moves) = (note.low, note.high, note.sensitivities);
+    println!(rt; "  {kind:<9} {low:>8} {high:>6}  {moves}")?;
     Ok(())
 }

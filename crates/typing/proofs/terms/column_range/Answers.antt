@@ -1,4 +1,4 @@
-use Rattle.std.proofs.Common.{◌≡◌, Bool, true, length, Some, sym, ap, ◌∙◌, w64, rules}
+use Rattle.std.proofs.Common.{◌≡◌, Bool, true, length, sym, ap, ◌∙◌, w64}
 use Rattle.rules.specs.Typing.{index, place, scope_rule, settle}
 use Rattle.sources.specs.Shapes.{column}
 use Rattle.sources.specs.declared.shapes.Range.{Range}
@@ -10,7 +10,6 @@ returns c =
     let cs = c.args.columns.now in
     let z = c.args.at in
     let back = to_z-of_z w64 z c.ranges.at in
-    let found : c.place.result ≡ Some c.in_ok-j.j = search rules in
-    let h = rw found at c.place.ensures in
+    let h = c.in_ok-j.ensures in
     let there : place (length cs) z ≡ true = ap (place (length cs)) (sym back) ∙ h.0 in
     ap (λ (x : Range). settle (scope_rule c.args.line true) x) (ap (column cs) (h.1 ∙ ap index back)) ∙ ap (λ (b : Bool). settle (scope_rule c.args.line b) (column cs (index z))) (sym there)

@@ -25,7 +25,6 @@ ready es totals vars is empty plain =
 pub number-requires : goal.number-requires
 number-requires c =
     record {
-      few = omega arith;
       spare = omega (arith, c.new.ensures.spare);
       ready = ([], margin, ready _ _ _ (unfold part_at parts parts_from in refl) c.new.ensures.items (unfold parts parts_from in refl));
     }
