@@ -1,6 +1,7 @@
 -- Four amounts, one for each input, and how they are added and multiplied.
-use Rattle.std.specs.Prelude.{ℕ, ◌+◌, ◌*◌, Bool, true, cond, ◌&&◌, List, [], ◌∷◌, ◌++◌, codes, map, ◌==◌, nat_le, slice_index}
+use Rattle.std.specs.Prelude.{ℕ, ◌+◌, ◌*◌, Bool, cond, ◌&&◌, List, [], ◌∷◌, ◌++◌, codes, map, ◌==◌, nat_le, slice_index}
 use Rattle.std.specs.Fmt.{decimal}
+use Rattle.std.specs.List.{list_all}
 use Rattle.rules.specs.declared.amounts.Amounts.{Amounts}
 
 abbrev pub amounts : (a b c d : ℕ) → Amounts
@@ -41,8 +42,7 @@ abbrev pub all_times : ℕ → List ℕ → List ℕ
 all_times n xs = map (λ x. n * x) xs
 
 abbrev pub all_at_most : ℕ → List ℕ → Bool
-all_at_most n [] = true
-all_at_most n (x ∷ xs) = nat_le x n && all_at_most n xs
+all_at_most n xs = list_all (λ x. nat_le x n) xs
 
 -- the four amounts, with a space between: `1 0 0 2`
 abbrev pub printed : Amounts → List ℕ

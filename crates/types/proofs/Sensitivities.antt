@@ -3,7 +3,7 @@ use Rattle.std.proofs.Common.{◌≡◌, ℕ, zero, suc, ◌+◌, ◌-◌, ◌*�
 use Rattle.rules.specs.Amounts.{all_added, all_at_most, all_times}
 use Rattle.sources.specs.Indexed.{listed}
 use Rattle.std.proofs.lemmas.List.FromFn.{fill_by_all}
-use Rattle.std.proofs.lemmas.List.{at_drop_more, drop_more, drop-replicate, drop-set, drop-set-add, get_or-drop, get_or-replicate, get_or-set_other, get_or-set_same, length-drop, length-replicate, length-set}
+use Rattle.std.proofs.lemmas.List.{at_drop_more, drop-replicate, drop-set-add, get_or-drop, get_or-replicate, get_or-set_other, get_or-set_same, length-drop, length-replicate, length-set}
 use Rattle.std.proofs.lemmas.Bool.{and_from, and_parts, cases_eq, cond-false, cond-true, eq-eqb, le-leb, leb-true, ne_eqb}
 
 at_most_at : (n : ℕ) (xs : List ℕ) (k : ℕ) → all_at_most n xs ≡ true → k < length xs → get_or xs k 0 ≤ n
@@ -19,18 +19,13 @@ at_most_from n xs first i e low high =
 pub at_most_more : (n : ℕ) (xs : List ℕ) (i : ℕ) → i < length xs → all_at_most n (drop i xs) ≡ (leb (get_or xs i 0) n && all_at_most n (drop (i + 1) xs))
 at_most_more n xs i h = at_drop_more (all_at_most n) xs i 0 h
 
--- this and so many times the other, one place more, from the end
-module _ (factor : ℕ) (xs ys : List ℕ) where
-  abbrev with_times : ℕ → List ℕ
-  with_times i = all_added (drop i xs) (all_times factor (drop i ys))
-
-  pub with_times_more : (vs : List ℕ) (n j i v : ℕ) → length xs ≡ n → length ys ≡ n → j + 1 ≡ i → i ≤ n → v ≡ get_or xs j 0 + factor * get_or ys j 0 → (length vs ≡ n) × (drop i vs ≡ with_times i) → (length (set vs j v) ≡ n) × (drop j (set vs j v) ≡ with_times j)
-  with_times_more vs n j i v l m next h e (long, rest) = (
-    length-set vs j v ∙ long,
-    drop-set vs j v (omega arith)
-        ∙ ap₂ ◌∷◌ e (ap (λ k. drop k vs) next ∙ rest ∙ ap with_times (sym next))
-        ∙ sym (ap₂ (λ a b. all_added a (all_times factor b)) (drop_more xs j 0 (omega arith)) (drop_more ys j 0 (omega arith))),
-  )
+-- what is at each place the first number and n times the second
+pub sums_from : (n : ℕ) (ws xs ys : List ℕ) → length ws ≡ length xs → length ys ≡ length xs → ((i : ℕ) → i < length xs → get_or ws i 0 ≡ get_or xs i 0 + n * get_or ys i 0) → ws ≡ all_added xs (all_times n ys)
+sums_from n [] [] ys e f each = refl
+sums_from n [] (x ∷ xs) ys e f each = absurd (omega arith)
+sums_from n (w ∷ ws) [] ys e f each = absurd (omega arith)
+sums_from n (w ∷ ws) (x ∷ xs) [] e f each = absurd (omega arith)
+sums_from n (w ∷ ws) (x ∷ xs) (y ∷ ys) e f each = ap₂ ◌∷◌ (each 0 (omega arith)) (sums_from n ws xs ys (omega arith) (omega arith) (λ i h. each (suc i) (omega arith)))
 
 pub times_one : (xs : List ℕ) → all_times 1 xs ≡ xs
 times_one [] = refl

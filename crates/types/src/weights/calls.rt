@@ -1,5 +1,5 @@
 // Sensitivities at the variables in scope.
-ghost use Rattle.std.specs.Prelude.{◌≡◌, ◌-◌, ◌<◌, ◌≤◌, true, length, drop, replicate, if◌then◌else◌, nat_eq, slice_index};
+ghost use Rattle.std.specs.Prelude.{◌≡◌, ℕ, ◌-◌, ◌<◌, ◌≤◌, true, length, drop, replicate, if◌then◌else◌, nat_eq, slice_index};
 ghost use Rattle.rules.specs.Amounts.{all_added, all_at_most, all_times};
 ghost use Rattle.rules.specs.Typing.{sensitivity_bound};
 ghost use Rattle.sources.specs.Indexed.{listed};
@@ -11,6 +11,7 @@ ghost use Rattle.stacks.specs.Stack.{spare, stacked};
 use super::Weights;
 use crate::limits::MAX_VARS;
 use crate::variables::Variables;
+use std::array;
 
 impl Weights {
     pub(crate) fn none() -> Weights
@@ -37,7 +38,7 @@ impl Weights {
         requires small { all_at_most sensitivity_bound (drop (spare scope.now) other.now.values) ≡ true }
         ensures { drop (spare scope.now) result.values ≡ all_added (drop (spare scope.now) self.now.values) (drop (spare scope.now) other.now.values) }
     {
-        self.with_times(1, other, scope)
+        self.with_times(1, other)
     }
 
     // The multiple at each variable.
@@ -46,7 +47,7 @@ impl Weights {
         requires small { all_at_most sensitivity_bound (drop (spare scope.now) self.now.values) ≡ true }
         ensures { drop (spare scope.now) result.values ≡ all_times factor (drop (spare scope.now) self.now.values) }
     {
-        Weights::none().with_times(factor, self, scope)
+        Weights::none().with_times(factor, self)
     }
 
     // At the variable that stands in front of the scope: this is of a body that has it innermost.
@@ -66,32 +67,28 @@ impl Weights {
         requires bound { all_at_most sensitivity_bound (drop (spare scope.now) bound.now.values) ≡ true }
         ensures { drop (spare scope.now) result.values ≡ all_added (drop 1 (drop (spare scope.now - 1) self.now.values)) (all_times (slice_index (drop (spare scope.now - 1) self.now.values) 0) (drop (spare scope.now) bound.now.values)) }
     {
-        self.with_times(self.at_inner(scope), bound, scope)
+        self.with_times(self.at_inner(scope), bound)
     }
 
     // Whether none is above the bound.
     pub(crate) fn are_at_most(&self, bound: u64, scope: &Variables) -> bool
         ensures { result ≡ all_at_most bound (drop (spare scope.now) self.now.values) }
     {
-        for i in scope.spare()..MAX_VARS {
-            if self.values[i] > bound {
-                return false;
-            }
-        }
-        true
+        self.values[scope.spare()..]
+            .iter()
+            .all(|weight| *weight <= bound)
     }
 
-    // This and so many times the other, at each variable.
-    fn with_times(&self, factor: u64, other: &Weights, scope: &Variables) -> Weights
-        requires factor { factor ≤ sensitivity_bound }
-        requires own { all_at_most sensitivity_bound (drop (spare scope.now) self.now.values) ≡ true }
-        requires small { all_at_most sensitivity_bound (drop (spare scope.now) other.now.values) ≡ true }
-        ensures { drop (spare scope.now) result.values ≡ all_added (drop (spare scope.now) self.now.values) (all_times factor (drop (spare scope.now) other.now.values)) }
+    // This and so many times the other, exact wherever both are within the bound. In front of a scope, where any number
+    // may stand, it saturates.
+    fn with_times(&self, factor: u64, other: &Weights) -> Weights
+        requires { factor ≤ sensitivity_bound }
+        ensures { (first : ℕ) → all_at_most sensitivity_bound (drop first self.now.values) ≡ true → all_at_most sensitivity_bound (drop first other.now.values) ≡ true → drop first result.values ≡ all_added (drop first self.now.values) (all_times factor (drop first other.now.values)) }
     {
-        let mut values = [0; MAX_VARS];
-        for i in (scope.spare()..MAX_VARS).rev() {
-            values[i] = self.values[i] + factor * other.values[i];
+        Weights {
+            values: array::from_fn(|i| {
+                self.values[i].saturating_add(factor.saturating_mul(other.values[i]))
+            }),
         }
-        Weights { values }
     }
 }

@@ -24,14 +24,11 @@ module _ (xs : List ℕ) (s : ℕ) (some : 0 < s) where
   unfolded_is ws bs n e is = is ∙ ap₂ (λ own k. all_added own (all_times k bs)) rest_is e
 
 pub with_times-requires : goal.with_times-requires
-with_times-requires c =
-    let v = c.args.scope.now in
-    let ws = c.args.self.now in
-    record {
-      factor = c.at_inner.ensures.small;
-      own = rest_small ws.values (spare v) c.requires.room sensitivity_bound (omega (arith, ws.full, v.within)) c.requires.body;
-      small = c.requires.bound;
-    }
+with_times-requires c = c.at_inner.ensures.small
 
 pub returns : goal.returns
-returns c = unfolded_is c.args.self.now.values (spare c.args.scope.now) c.requires.room _ _ c.at_inner.result c.at_inner.ensures.value c.with_times.ensures
+returns c =
+    let v = c.args.scope.now in
+    let ws = c.args.self.now in
+    let own = rest_small ws.values (spare v) c.requires.room sensitivity_bound (omega (arith, ws.full, v.within)) c.requires.body in
+    unfolded_is ws.values (spare v) c.requires.room _ _ c.at_inner.result c.at_inner.ensures.value (c.with_times.ensures (spare v) own c.requires.bound)
