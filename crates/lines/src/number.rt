@@ -29,6 +29,7 @@ fn value(digits: &[u8]) -> Option<u32>
     ensures { result ≡ value_from 0 digits.now }
 {
     let mut n = 0;
+    // A fold's closure would know no bound on the number so far, and would have to check each sum.
     for digit in digits {
         if !digit.is_ascii_digit() {
             return None;

@@ -71,6 +71,7 @@ fn filled_len(bytes: &[u8]) -> Option<usize>
     are_filled(&bytes[..len]).then_some(len)
 }
 
+// How many bytes come before a bracket or a line end.
 fn inner_len(bytes: &[u8]) -> usize
     ensures { result ≡ prefix_len inner bytes.now }
 {
