@@ -30,6 +30,7 @@ impl<A: Source, B: Source> Asked<'_, A, B> {
             route,
             addend,
         };
+        // The sources are of two types, and the pass is generic: no one value stands for either.
         if route.source() == 0 {
             pass.add_rows(self.plant.first, total)
         } else {
@@ -44,6 +45,7 @@ impl<A: Source, B: Source> Asked<'_, A, B> {
     {
         let mut total = 0;
         let mut nth = 0;
+        // No iterator counts the leaves: how many there are shows only at the one that is not there.
         while let Some(route) = find_route(self.entries, bag, nth) {
             total = self.add_leaf(&route, addend, total);
             nth += 1;
@@ -58,6 +60,7 @@ impl<A: Source, B: Source> Asked<'_, A, B> {
         ensures { RightBelow self.now.entries.now result (sources_of (plant_of A.Source.meaning B.Source.meaning self.now.plant.now)) (length self.now.entries.now) }
     {
         let mut totals = [0; ROOM];
+        // A position names a form and its total alike.
         for at in 0..self.entries.len() {
             if let Some(tally) = tally_of(form_at(self.entries, at)) {
                 totals[at] = self.add_bag(tally.bag, tally.addend);

@@ -40,6 +40,7 @@ fn seek(entries: &[Entry], at: usize, nth: usize) -> Result<Route, usize>
     }
 }
 
+// The entries may be a caller's own, as long as a table's are, and not only a table's.
 // The route from leaf `nth` of the bag at `top`, leaves counted from 0 in order; none past the last leaf.
 // Linear in the size of the bag.
 pub fn find_route(entries: &[Entry], top: usize, nth: usize) -> Option<Route>

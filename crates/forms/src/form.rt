@@ -2,7 +2,8 @@
 ghost use Rattle.std.specs.Prelude.{◌≡◌, ◌<◌, length, slice_index_or};
 ghost use Rattle.forms.specs.Table.{Stands};
 
-// One variant for each word. A `usize` is the position of a part, which stands before its whole.
+// One variant for each word. A `usize` is the position of a part, which stands before its whole: parts are in no boxes,
+// since a check allocates nothing.
 #[derive(Clone, Copy)]
 pub enum Form {
     Bag {

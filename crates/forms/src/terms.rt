@@ -15,6 +15,7 @@ pub fn eval_term(entries: &[Entry], at: usize, row: &[i64; CELLS]) -> i64
     ensures { (t : TermTree) → part_at entries.now at ≡ a_term t → result ≡ value t row.now }
 {
     match form_at(entries, at) {
+        // `as`: that a column is not negative is proved and not tested, as for all numbers of forms.
         Form::Col { column } => row[column as usize],
         Form::Lit { value } => value,
         Form::Plus { left, right } => eval_term(entries, left, row)

@@ -24,6 +24,7 @@ fn tell(rt: &HostRuntime) -> anyhow::Result<()> {
                 let refusal = fault.refusal();
                 let number = refusal.number;
                 let line = refusal.first;
+                // Of a text the second place is none.
                 println!(rt; "refused {number} at line {line}")?;
             }
         }

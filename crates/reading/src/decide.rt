@@ -21,7 +21,7 @@ pub fn wanted(innermost: Option<Frame>, forms: usize) -> Option<Kind>
 {
     match innermost {
         Some(frame) => frame.next_kind(),
-        None => if forms == 0 { Some(Kind::Number) } else { None },
+        None => (forms == 0).then_some(Kind::Number),
     }
 }
 

@@ -41,6 +41,7 @@ fn fill(text: &[u8], table: &mut Table) -> Result<(), FormFault>
     let mut progress = Progress::new();
     let mut rest = text;
     let mut line = 0;
+    // What is left shows only once a line is read, so the lines are no iterator.
     while !rest.is_empty() {
         line += 1;
         let (token, behind) = read_line(rest, line)?;

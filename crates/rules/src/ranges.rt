@@ -98,6 +98,7 @@ pub fn counts(rows: usize) -> Range
     requires { rows ≤ most_rows }
     ensures { result ≡ counts rows }
 {
+    // `as`, since i64 has no From of usize.
     Range {
         low: 0,
         high: rows as i64,
@@ -111,6 +112,7 @@ pub fn totals(rows: usize, low: i64, high: i64) -> Range
     requires high { unsigned_abs high ≤ literal_bound }
     ensures { result ≡ totals rows low high }
 {
+    // As above.
     let n = rows as i64;
     let all = Range {
         low: n * low,

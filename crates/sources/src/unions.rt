@@ -49,6 +49,7 @@ impl<A: Source, B: Source> Source for Union<A, B> {
         }
     }
 
+    // As `low`, at the other end: what both share is only this shape.
     fn high(&self, column: usize) -> i64 {
         let high = self.first.high(column);
         match self.joint_limit() {

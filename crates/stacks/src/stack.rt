@@ -5,7 +5,7 @@ use std::alloc::AllocError;
 
 mod calls;
 
-// The innermost item stands at `first`, the outermost last.
+// In place, so that nothing is allocated. The innermost item stands at `first`, the outermost last.
 pub struct Stack<T, const N: usize> {
     items: [T; N],
     first: usize,
@@ -13,6 +13,7 @@ pub struct Stack<T, const N: usize> {
     ghost within: { first ≤ N },
 }
 
+// By hand, since no derive goes over a ghost field.
 impl<T: Copy, const N: usize> Copy for Stack<T, N> {}
 
 impl<T: Copy, const N: usize> Clone for Stack<T, N> {

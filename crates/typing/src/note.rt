@@ -54,6 +54,7 @@ impl Note {
         requires { limit ≤ most_rows }
         ensures { result ≡ bag_note limit sensitivities }
     {
+        // `as`, since i64 has no From of usize.
         Note {
             kind: Some(Kind::Bag),
             low: 0,

@@ -17,6 +17,8 @@ use rules::amounts::Amounts;
 use rules::ranges::{clips, differences, greater, is_bounded, lesser, scaled, sums};
 use sources::Range;
 
+// That a number is settled speaks of the scope that it stands in, which is another one at each call: so it is asked
+// for and not part of the type.
 impl TypedNumber {
     pub fn plus(&self, other: &TypedNumber, scope: &Variables) -> TypedNumber
         requires first { NumberGood (spare scope.now) self.now }
@@ -59,7 +61,7 @@ impl TypedNumber {
         TypedNumber {
             range: scaled(factor, self.range),
             inputs: self.inputs.times(size),
-            vars: self.vars.times(size, scope),
+            vars: self.vars.times(size),
         }
     }
 
@@ -116,7 +118,7 @@ impl TypedNumber {
         TypedNumber {
             range,
             inputs: self.inputs.added(other.inputs),
-            vars: self.vars.added(&other.vars, scope),
+            vars: self.vars.added(&other.vars),
         }
     }
 }

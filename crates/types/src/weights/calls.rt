@@ -33,19 +33,16 @@ impl Weights {
     }
 
     // The sum at each variable.
-    pub(crate) fn added(&self, other: &Weights, scope: &Variables) -> Weights
-        requires own { all_at_most sensitivity_bound (drop (spare scope.now) self.now.values) ≡ true }
-        requires small { all_at_most sensitivity_bound (drop (spare scope.now) other.now.values) ≡ true }
-        ensures { drop (spare scope.now) result.values ≡ all_added (drop (spare scope.now) self.now.values) (drop (spare scope.now) other.now.values) }
+    pub(crate) fn added(&self, other: &Weights) -> Weights
+        ensures { (first : ℕ) → all_at_most sensitivity_bound (drop first self.now.values) ≡ true → all_at_most sensitivity_bound (drop first other.now.values) ≡ true → drop first result.values ≡ all_added (drop first self.now.values) (drop first other.now.values) }
     {
         self.with_times(1, other)
     }
 
     // The multiple at each variable.
-    pub(crate) fn times(&self, factor: u64, scope: &Variables) -> Weights
-        requires factor { factor ≤ sensitivity_bound }
-        requires small { all_at_most sensitivity_bound (drop (spare scope.now) self.now.values) ≡ true }
-        ensures { drop (spare scope.now) result.values ≡ all_times factor (drop (spare scope.now) self.now.values) }
+    pub(crate) fn times(&self, factor: u64) -> Weights
+        requires { factor ≤ sensitivity_bound }
+        ensures { (v : Stack Range max_depth) → all_at_most sensitivity_bound (drop (spare v) self.now.values) ≡ true → drop (spare v) result.values ≡ all_times factor (drop (spare v) self.now.values) }
     {
         Weights::none().with_times(factor, self)
     }

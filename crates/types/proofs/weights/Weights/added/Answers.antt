@@ -5,4 +5,4 @@ use Rattle.types.proofs.Sensitivities.{times_one}
 use Rattle.types.proofs.weights.Weights.added.Goals as goal
 
 pub returns : goal.returns
-returns c = c.with_times.ensures (spare c.args.scope.now) c.requires.own c.requires.small ∙ ap (all_added (drop (spare c.args.scope.now) c.args.self.now.values)) (times_one (drop (spare c.args.scope.now) c.args.other.now.values))
+returns c = λ first own small. c.with_times.ensures first own small ∙ ap (all_added (drop first c.args.self.now.values)) (times_one (drop first c.args.other.now.values))

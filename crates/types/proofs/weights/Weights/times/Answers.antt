@@ -11,13 +11,13 @@ times_is : (n : ℕ) (zs rest ws : List ℕ) → zs ≡ replicate n 0 → length
 times_is n zs rest ws none as_long is = is ∙ ap (λ ys. all_added ys rest) none ∙ zeros_added n rest as_long
 
 pub with_times-requires : goal.with_times-requires
-with_times-requires c = c.requires.factor
+with_times-requires c = c.requires
 
 pub returns : goal.returns
 returns c =
-    let v = c.args.scope.now in
+    λ v small.
     let ws = c.args.self.now in
     let rest = all_times c.args.factor (drop (spare v) ws.values) in
     let as_long : length rest ≡ length (stacked v) = omega (arith, length-map (drop (spare v) ws.values) (λ x. c.args.factor * x), length-drop (spare v) ws.values, ws.full, length_scope v) in
     let none = ap (all_at_most sensitivity_bound) (c.none.ensures v) ∙ zeros_at_most sensitivity_bound (length (stacked v)) in
-    times_is (length (stacked v)) _ rest _ (c.none.ensures v) as_long (c.with_times.ensures (spare v) none c.requires.small)
+    times_is (length (stacked v)) _ rest _ (c.none.ensures v) as_long (c.with_times.ensures (spare v) none small)
