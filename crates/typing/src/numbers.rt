@@ -93,26 +93,26 @@ impl Basis<'_> {
             }
             Form::Add { left, right } => {
                 let (x, y) = self.two_numbers(left, right, scope, notes)?;
-                Ok(x.plus(&y, scope))
+                Ok(x.plus(&y))
             }
             Form::Sub { left, right } => {
                 let (x, y) = self.two_numbers(left, right, scope, notes)?;
-                Ok(x.minus(&y, scope))
+                Ok(x.minus(&y))
             }
             Form::Least { left, right } => {
                 let (x, y) = self.two_numbers(left, right, scope, notes)?;
-                Ok(x.least(&y, scope))
+                Ok(x.least(&y))
             }
             Form::Most { left, right } => {
                 let (x, y) = self.two_numbers(left, right, scope, notes)?;
-                Ok(x.most(&y, scope))
+                Ok(x.most(&y))
             }
             Form::Scale {
                 factor,
                 number: inner,
             } => {
                 let x = self.number(inner, scope, notes)?;
-                Ok(x.scaled(factor, scope))
+                Ok(x.scaled(factor))
             }
             Form::Clip {
                 low,

@@ -4,9 +4,11 @@ ghost use Rattle.refusals.specs.Rules.{reason};
 ghost use Rattle.rules.specs.Amounts.{added, at_most, times as multiplied};
 ghost use Rattle.rules.specs.Ranges.{differences, greater, lesser, sums};
 ghost use Rattle.rules.specs.Typing.{both, cut, multiple, named, number_rule, scope_rule, sensitivity_bound, settle};
-ghost use Rattle.trees.specs.Size.{literal_bound};
+ghost use Rattle.sources.specs.declared.shapes.Range.{Range};
+ghost use Rattle.trees.specs.Size.{literal_bound, max_depth};
 ghost use Rattle.types.specs.Faults.{rule_refusal, told};
 ghost use Rattle.stacks.specs.Stack.{spare};
+ghost use Rattle.stacks.specs.declared.stack.Stack.{Stack};
 ghost use Rattle.types.specs.Shown.{NumberGood, number_shown};
 
 use super::TypedNumber;
@@ -17,45 +19,41 @@ use rules::amounts::Amounts;
 use rules::ranges::{clips, differences, greater, is_bounded, lesser, scaled, sums};
 use sources::Range;
 
-// That a number is settled speaks of the scope that it stands in, which is another one at each call: so it is asked
-// for and not part of the type.
+// That a number is settled speaks of the scope that it stands in, by how many places are to spare in front of it, and
+// is asked for here, since no number holds its scope.
 impl TypedNumber {
-    pub fn plus(&self, other: &TypedNumber, scope: &Variables) -> TypedNumber
-        requires first { NumberGood (spare scope.now) self.now }
-        requires second { NumberGood (spare scope.now) other.now }
-        ensures { number_shown (spare scope.now) result ≡ both sums (number_shown (spare scope.now) self.now) (number_shown (spare scope.now) other.now) }
+    pub fn plus(&self, other: &TypedNumber) -> TypedNumber
+        requires { (first : ℕ) × NumberGood first self.now × NumberGood first other.now }
+        ensures { (first : ℕ) → NumberGood first self.now → NumberGood first other.now → number_shown first result ≡ both sums (number_shown first self.now) (number_shown first other.now) }
     {
-        self.joined(other, sums(self.range, other.range), scope)
+        self.joined(other, sums(self.range, other.range))
     }
 
-    pub fn minus(&self, other: &TypedNumber, scope: &Variables) -> TypedNumber
-        requires first { NumberGood (spare scope.now) self.now }
-        requires second { NumberGood (spare scope.now) other.now }
-        ensures { number_shown (spare scope.now) result ≡ both differences (number_shown (spare scope.now) self.now) (number_shown (spare scope.now) other.now) }
+    pub fn minus(&self, other: &TypedNumber) -> TypedNumber
+        requires { (first : ℕ) × NumberGood first self.now × NumberGood first other.now }
+        ensures { (first : ℕ) → NumberGood first self.now → NumberGood first other.now → number_shown first result ≡ both differences (number_shown first self.now) (number_shown first other.now) }
     {
-        self.joined(other, differences(self.range, other.range), scope)
+        self.joined(other, differences(self.range, other.range))
     }
 
-    pub fn least(&self, other: &TypedNumber, scope: &Variables) -> TypedNumber
-        requires first { NumberGood (spare scope.now) self.now }
-        requires second { NumberGood (spare scope.now) other.now }
-        ensures { number_shown (spare scope.now) result ≡ both lesser (number_shown (spare scope.now) self.now) (number_shown (spare scope.now) other.now) }
+    pub fn least(&self, other: &TypedNumber) -> TypedNumber
+        requires { (first : ℕ) × NumberGood first self.now × NumberGood first other.now }
+        ensures { (first : ℕ) → NumberGood first self.now → NumberGood first other.now → number_shown first result ≡ both lesser (number_shown first self.now) (number_shown first other.now) }
     {
-        self.joined(other, lesser(self.range, other.range), scope)
+        self.joined(other, lesser(self.range, other.range))
     }
 
-    pub fn most(&self, other: &TypedNumber, scope: &Variables) -> TypedNumber
-        requires first { NumberGood (spare scope.now) self.now }
-        requires second { NumberGood (spare scope.now) other.now }
-        ensures { number_shown (spare scope.now) result ≡ both greater (number_shown (spare scope.now) self.now) (number_shown (spare scope.now) other.now) }
+    pub fn most(&self, other: &TypedNumber) -> TypedNumber
+        requires { (first : ℕ) × NumberGood first self.now × NumberGood first other.now }
+        ensures { (first : ℕ) → NumberGood first self.now → NumberGood first other.now → number_shown first result ≡ both greater (number_shown first self.now) (number_shown first other.now) }
     {
-        self.joined(other, greater(self.range, other.range), scope)
+        self.joined(other, greater(self.range, other.range))
     }
 
-    pub fn scaled(&self, factor: i64, scope: &Variables) -> TypedNumber
+    pub fn scaled(&self, factor: i64) -> TypedNumber
         requires factor { unsigned_abs factor ≤ literal_bound }
-        requires good { NumberGood (spare scope.now) self.now }
-        ensures { number_shown (spare scope.now) result ≡ multiple factor (number_shown (spare scope.now) self.now) }
+        requires good { (first : ℕ) × NumberGood first self.now }
+        ensures { (v : Stack Range max_depth) → NumberGood (spare v) self.now → number_shown (spare v) result ≡ multiple factor (number_shown (spare v) self.now) }
     {
         let size = factor.unsigned_abs();
         TypedNumber {
@@ -110,10 +108,9 @@ impl TypedNumber {
     }
 
     // What two numbers make together: their sensitivities add up.
-    fn joined(&self, other: &TypedNumber, range: Range, scope: &Variables) -> TypedNumber
-        requires first { NumberGood (spare scope.now) self.now }
-        requires second { NumberGood (spare scope.now) other.now }
-        ensures { number_shown (spare scope.now) result ≡ both (λ _ _. range) (number_shown (spare scope.now) self.now) (number_shown (spare scope.now) other.now) }
+    fn joined(&self, other: &TypedNumber, range: Range) -> TypedNumber
+        requires { (first : ℕ) × NumberGood first self.now × NumberGood first other.now }
+        ensures { (first : ℕ) → NumberGood first self.now → NumberGood first other.now → number_shown first result ≡ both (λ _ _. range) (number_shown first self.now) (number_shown first other.now) }
     {
         TypedNumber {
             range,

@@ -250,7 +250,7 @@ draft_number-plus-requires t c =
     let first = part c.args.scope.now i.first s.first s.first_depth in
     let second = part c.args.scope.now i.second s.second s.second_depth in
     let e = c.in_ok-x-in-Add.ensures (c.requires.0 + 1) (c.requires.1 + 1) i.a i.b first second in
-    record { first = e.2.0; second = e.2.1 }
+    (spare c.args.scope.now, e.2.0, e.2.1)
 
 pub draft_number-returns-in_ok-x-in-Add : goal.draft_number-returns-in_ok-x-in-Add
 draft_number-returns-in_ok-x-in-Add t c =
@@ -262,7 +262,7 @@ draft_number-returns-in_ok-x-in-Add t c =
     let first = part c.args.scope.now i.first s.first s.first_depth in
     let second = part c.args.scope.now i.second s.second s.second_depth in
     let e = c.in_ok-x-in-Add.ensures (n + 1) (o + 1) i.a i.b first second in
-    subst (λ (u : NumberTree). NumberDrafted k v n o u c.args.notes.now (Ok c.plus.result) c.two_numbers.new.notes) (sym i.is) (pair_goes n k (stacked v) sums i.a i.b _ (number_shown (spare v) c.plus.result) c.plus.ensures e.0, e.1, tt)
+    subst (λ (u : NumberTree). NumberDrafted k v n o u c.args.notes.now (Ok c.plus.result) c.two_numbers.new.notes) (sym i.is) (pair_goes n k (stacked v) sums i.a i.b _ (number_shown (spare v) c.plus.result) (c.plus.ensures (spare v) e.2.0 e.2.1) e.0, e.1, tt)
 
 pub draft_number-two_numbers-requires-in-Sub : goal.draft_number-two_numbers-requires-in-Sub
 draft_number-two_numbers-requires-in-Sub t c =
@@ -292,7 +292,7 @@ draft_number-minus-requires t c =
     let first = part c.args.scope.now i.first s.first s.first_depth in
     let second = part c.args.scope.now i.second s.second s.second_depth in
     let e = c.in_ok-x-in-Sub.ensures (c.requires.0 + 1) (c.requires.1 + 1) i.a i.b first second in
-    record { first = e.2.0; second = e.2.1 }
+    (spare c.args.scope.now, e.2.0, e.2.1)
 
 pub draft_number-returns-in_ok-x-in-Sub : goal.draft_number-returns-in_ok-x-in-Sub
 draft_number-returns-in_ok-x-in-Sub t c =
@@ -304,7 +304,7 @@ draft_number-returns-in_ok-x-in-Sub t c =
     let first = part c.args.scope.now i.first s.first s.first_depth in
     let second = part c.args.scope.now i.second s.second s.second_depth in
     let e = c.in_ok-x-in-Sub.ensures (n + 1) (o + 1) i.a i.b first second in
-    subst (λ (u : NumberTree). NumberDrafted k v n o u c.args.notes.now (Ok c.minus.result) c.two_numbers-in-Sub.new.notes) (sym i.is) (pair_goes n k (stacked v) differences i.a i.b _ (number_shown (spare v) c.minus.result) c.minus.ensures e.0, e.1, tt)
+    subst (λ (u : NumberTree). NumberDrafted k v n o u c.args.notes.now (Ok c.minus.result) c.two_numbers-in-Sub.new.notes) (sym i.is) (pair_goes n k (stacked v) differences i.a i.b _ (number_shown (spare v) c.minus.result) (c.minus.ensures (spare v) e.2.0 e.2.1) e.0, e.1, tt)
 
 pub draft_number-two_numbers-requires-in-Least : goal.draft_number-two_numbers-requires-in-Least
 draft_number-two_numbers-requires-in-Least t c =
@@ -334,7 +334,7 @@ draft_number-least-requires t c =
     let first = part c.args.scope.now i.first s.first s.first_depth in
     let second = part c.args.scope.now i.second s.second s.second_depth in
     let e = c.in_ok-x-in-Least.ensures (c.requires.0 + 1) (c.requires.1 + 1) i.a i.b first second in
-    record { first = e.2.0; second = e.2.1 }
+    (spare c.args.scope.now, e.2.0, e.2.1)
 
 pub draft_number-returns-in_ok-x-in-Least : goal.draft_number-returns-in_ok-x-in-Least
 draft_number-returns-in_ok-x-in-Least t c =
@@ -346,7 +346,7 @@ draft_number-returns-in_ok-x-in-Least t c =
     let first = part c.args.scope.now i.first s.first s.first_depth in
     let second = part c.args.scope.now i.second s.second s.second_depth in
     let e = c.in_ok-x-in-Least.ensures (n + 1) (o + 1) i.a i.b first second in
-    subst (λ (u : NumberTree). NumberDrafted k v n o u c.args.notes.now (Ok c.least.result) c.two_numbers-in-Least.new.notes) (sym i.is) (pair_goes n k (stacked v) lesser i.a i.b _ (number_shown (spare v) c.least.result) c.least.ensures e.0, e.1, tt)
+    subst (λ (u : NumberTree). NumberDrafted k v n o u c.args.notes.now (Ok c.least.result) c.two_numbers-in-Least.new.notes) (sym i.is) (pair_goes n k (stacked v) lesser i.a i.b _ (number_shown (spare v) c.least.result) (c.least.ensures (spare v) e.2.0 e.2.1) e.0, e.1, tt)
 
 pub draft_number-two_numbers-requires-in-Most : goal.draft_number-two_numbers-requires-in-Most
 draft_number-two_numbers-requires-in-Most t c =
@@ -376,7 +376,7 @@ draft_number-most-requires t c =
     let first = part c.args.scope.now i.first s.first s.first_depth in
     let second = part c.args.scope.now i.second s.second s.second_depth in
     let e = c.in_ok-x-in-Most.ensures (c.requires.0 + 1) (c.requires.1 + 1) i.a i.b first second in
-    record { first = e.2.0; second = e.2.1 }
+    (spare c.args.scope.now, e.2.0, e.2.1)
 
 pub draft_number-returns-in_ok-x-in-Most : goal.draft_number-returns-in_ok-x-in-Most
 draft_number-returns-in_ok-x-in-Most t c =
@@ -388,7 +388,7 @@ draft_number-returns-in_ok-x-in-Most t c =
     let first = part c.args.scope.now i.first s.first s.first_depth in
     let second = part c.args.scope.now i.second s.second s.second_depth in
     let e = c.in_ok-x-in-Most.ensures (n + 1) (o + 1) i.a i.b first second in
-    subst (λ (u : NumberTree). NumberDrafted k v n o u c.args.notes.now (Ok c.most.result) c.two_numbers-in-Most.new.notes) (sym i.is) (pair_goes n k (stacked v) greater i.a i.b _ (number_shown (spare v) c.most.result) c.most.ensures e.0, e.1, tt)
+    subst (λ (u : NumberTree). NumberDrafted k v n o u c.args.notes.now (Ok c.most.result) c.two_numbers-in-Most.new.notes) (sym i.is) (pair_goes n k (stacked v) greater i.a i.b _ (number_shown (spare v) c.most.result) (c.most.ensures (spare v) e.2.0 e.2.1) e.0, e.1, tt)
 
 pub draft_number-number-requires : goal.draft_number-number-requires
 draft_number-number-requires t c =
@@ -419,7 +419,7 @@ draft_number-scaled-requires t c =
     let first = part c.args.scope.now i.first (small_one i.a small.1) (omega arith) in
     let near : nat_abs c.in-Scale.factor ≤ literal_bound = small.0 in
     let back = to_z-of_z w64 c.in-Scale.factor (search rules) in
-    record { factor = omega (arith, ap nat_abs back); good = (c.in_ok-x-in-Scale.ensures (c.requires.0 + 1) (c.requires.1 + 1) i.a first).2 }
+    record { factor = omega (arith, ap nat_abs back); good = (spare c.args.scope.now, (c.in_ok-x-in-Scale.ensures (c.requires.0 + 1) (c.requires.1 + 1) i.a first).2) }
 
 pub draft_number-returns-in_ok-x-in-Scale : goal.draft_number-returns-in_ok-x-in-Scale
 draft_number-returns-in_ok-x-in-Scale t c =
@@ -432,7 +432,7 @@ draft_number-returns-in_ok-x-in-Scale t c =
     let first = part c.args.scope.now i.first (small_one i.a small.1) (omega arith) in
     let e = c.in_ok-x-in-Scale.ensures (n + 1) (o + 1) i.a first in
     let x = number_shown (spare v) c.in_ok-x-in-Scale.x in
-    subst (λ (u : NumberTree). NumberDrafted k v n o u c.args.notes.now (Ok c.scaled.result) c.number.new.notes) (sym i.is) (scale_goes n k (stacked v) i.a c.in-Scale.factor x (number_shown (spare v) c.scaled.result) (c.scaled.ensures ∙ ap (λ (z : ℤ). multiple z x) (to_z-of_z w64 c.in-Scale.factor (search rules))) e.0, e.1, tt)
+    subst (λ (u : NumberTree). NumberDrafted k v n o u c.args.notes.now (Ok c.scaled.result) c.number.new.notes) (sym i.is) (scale_goes n k (stacked v) i.a c.in-Scale.factor x (number_shown (spare v) c.scaled.result) (c.scaled.ensures v e.2 ∙ ap (λ (z : ℤ). multiple z x) (to_z-of_z w64 c.in-Scale.factor (search rules))) e.0, e.1, tt)
 
 pub draft_number-number-requires-in-Clip : goal.draft_number-number-requires-in-Clip
 draft_number-number-requires-in-Clip t c =
