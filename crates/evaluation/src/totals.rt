@@ -44,11 +44,11 @@ impl<A: Source, B: Source> Asked<'_, A, B> {
         ensures { (b : BagTree) → part_at self.now.entries.now bag ≡ a_bag b → result ≡ total_of (added self.now.entries.now addend) (rows b (sources_of (plant_of A.Source.meaning B.Source.meaning self.now.plant.now))) }
     {
         let mut total = 0;
-        let mut nth = 0;
-        // No iterator counts the leaves: how many there are shows only at the one that is not there.
-        while let Some(route) = find_route(self.entries, bag, nth) {
-            total = self.add_leaf(&route, addend, total);
-            nth += 1;
+        for nth in 0.. {
+            match find_route(self.entries, bag, nth) {
+                Some(route) => total = self.add_leaf(&route, addend, total),
+                None => break,
+            }
         }
         total
     }
