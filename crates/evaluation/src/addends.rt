@@ -7,7 +7,7 @@ use forms::limits::CELLS;
 use forms::numbers::clip;
 use forms::terms::eval_term;
 
-// What is added for each row: 1, or the value of the term at a position, clipped.
+// What is added for each row: 1, or the value of the term at a position, clipped. An Option would not say that it is 1.
 #[derive(Clone, Copy)]
 pub enum Addend {
     One,

@@ -57,13 +57,7 @@ fn pass(entries: &[Entry], at: usize, mut row: [i64; CELLS]) -> Option<[i64; CEL
     ensures { (s : Step) → StepAt entries.now at s → result ≡ stepped s row }
 {
     match form_at(entries, at) {
-        Form::Keep { condition, .. } => {
-            if eval_condition(entries, condition, &row) {
-                Some(row)
-            } else {
-                None
-            }
-        }
+        Form::Keep { condition, .. } => eval_condition(entries, condition, &row).then_some(row),
         Form::Put { column, term, .. } => {
             let value = eval_term(entries, term, &row);
             row[column as usize] = value;

@@ -113,7 +113,8 @@ pub struct Entry {
     pub order: usize,
 }
 
-// The form at a position, by which its part is built from the parts before it.
+// The form at a position, by which its part is built from the parts before it. Here and wherever a part is asked for,
+// the entries are lent on and the position changes, so they are two parameters.
 pub fn form_at(entries: &[Entry], at: usize) -> Form
     requires { at < length entries.now }
     ensures value { (d : Entry) → result ≡ (slice_index_or entries.now at d).form }

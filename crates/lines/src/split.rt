@@ -7,7 +7,8 @@ ghost use Rattle.lines.specs.Split.{fields, filled, filled_run, form_token, inne
 use crate::fault::LineFault;
 use crate::token::{Spelled, Token};
 
-// The token of the first line of the text, which is line `line`, and the text behind that line. The cost is the length of the line.
+// The token of the first line of the text, which is line `line`, and the text behind that line. The cost is the length of
+// the line. Text and number are no value: a closing and a fault tell the number, and what is read on has another text.
 pub fn next_token<'a>(
     text: &'a [u8],
     line: usize,

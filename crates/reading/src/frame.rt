@@ -35,7 +35,7 @@ impl Frame {
         last: 0,
     };
 
-    // A form without parts as yet.
+    // A form without parts as yet. A heading and its line come from a token, and go into a frame.
     pub fn new(heading: Heading, line: usize, order: usize) -> Frame
         ensures { result ≡ fresh heading line order }
     {

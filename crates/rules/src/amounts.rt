@@ -64,7 +64,7 @@ impl Amounts {
         Amounts::from_fn(|input| self.at(input) + other.at(input))
     }
 
-    // The multiple at each input.
+    // The multiple at each input. Factors come from literals and from amounts: no one type holds both.
     pub fn times(self, factor: u64) -> Amounts
         requires factor { factor ≤ sensitivity_bound }
         requires amounts { at_most sensitivity_bound self ≡ true }

@@ -1,4 +1,5 @@
 // Ranges of values: what an operation makes of the ranges of its parts. The bounds of the rules keep every end within 64 bits.
+// They are asked for at each operation: what it makes may be past them, so that a type of ranges within would be another.
 ghost use Rattle.std.specs.Prelude.{◌≡◌, ◌*◌, ◌^◌, ◌<◌, ◌≤◌, true, unsigned_abs};
 ghost use Rattle.forms.specs.Limits.{number_bound, term_bound};
 ghost use Rattle.sources.specs.Unions.{hull};
@@ -55,7 +56,8 @@ pub fn scaled(factor: i64, a: Range) -> Range
     multiples(factor, a)
 }
 
-// Both ends are written out in `sums`, here and in `greater`: a function that took what is done at an end, with its contract, would be longer than what it saves.
+// Both ends are written out in `sums`, here and in `greater`: a function that took what is done at an end, with its
+// contract, would be longer than what it saves.
 pub fn lesser(a: Range, b: Range) -> Range
     ensures { result ≡ lesser a b }
 {

@@ -199,11 +199,7 @@ mod tests {
 
     // A row in six cells, where it is there.
     fn row_of<S: Source>(source: &S, row: usize) -> Option<[i64; 6]> {
-        if row < source.count() {
-            Some(padded_row(source, source.width(), row))
-        } else {
-            None
-        }
+        (row < source.count()).then(|| padded_row(source, source.width(), row))
     }
 
     #[test]

@@ -20,11 +20,7 @@ impl<A: Source, B: Source> Union<A, B> {
         ensures answers { Unites (A.Source.meaning self.now.first) (B.Source.meaning self.now.second) (union (A.Source.meaning self.now.first) (B.Source.meaning self.now.second)) result }
     {
         let limit = self.first.limit() + self.second.limit();
-        if self.first.width() == self.second.width() && limit <= MAX_ROWS {
-            Some(limit)
-        } else {
-            None
-        }
+        (self.first.width() == self.second.width() && limit <= MAX_ROWS).then_some(limit)
     }
 }
 

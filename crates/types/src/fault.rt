@@ -22,10 +22,6 @@ impl Fault for RuleFault {
             RuleFault::RangeTooWide { line } => (12, line),
             RuleFault::TooSensitive { line } => (13, line),
         };
-        Refusal {
-            number,
-            first: line,
-            second: 0,
-        }
+        Refusal::new(number, line, 0)
     }
 }

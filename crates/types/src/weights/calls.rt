@@ -47,7 +47,8 @@ impl Weights {
         Weights::none().with_times(factor, self)
     }
 
-    // At the variable that stands in front of the scope: this is of a body that has it innermost.
+    // At the variable that stands in front of the scope: this is of a body that has it innermost. That there is room in
+    // front is asked for here and in the let's own calls, since a scope may be full.
     pub(crate) fn at_inner(&self, scope: &Variables) -> u64
         requires room { 0 < spare scope.now }
         requires small { all_at_most sensitivity_bound (drop (spare scope.now - 1) self.now.values) ≡ true }

@@ -1,5 +1,5 @@
-use Rattle.std.proofs.Common.{Some, None, sym, ap, ◌∙◌, subst, arith, rules}
-use Rattle.std.proofs.lemmas.Bool.{cond-true, cond-false}
+use Rattle.std.specs.Bool.{then_some}
+use Rattle.std.proofs.Common.{◌≡◌, Bool, true, false, Option, Some, None, cond, refl, sym, ap, ◌∙◌, subst, arith, rules}
 use Rattle.trees.specs.Meaning.{holds}
 use Rattle.forms.specs.Leaves.{CalmStep, stepped}
 use Rattle.forms.specs.Leaves.Step.{puts}
@@ -22,15 +22,14 @@ eval_term-value-requires c =
     let calm : CalmStep (puts c.in-Put.column k.0) c.args.row = subst (λ s. CalmStep s c.args.row) k.1 c.requires.2 in
     record { tree = k.0; is = k.2; calm = calm.1 }
 
-pub returns-then-eval_condition : goal.returns-then-eval_condition
-returns-then-eval_condition c = λ s h.
-    let k = keep_step c.args.entries.now c.args.at _ c.in-Keep.condition s c.in-Keep.ensures.stands h in
-    sym (ap (λ z. stepped z c.args.row) k.1 ∙ cond-true (holds k.0 c.args.row) (Some c.args.row) None (sym (c.eval_condition.ensures k.0 k.2) ∙ c.if-eval_condition.true))
+some_where : {A : Type 0} (b : Bool) (x : A) → then_some b x ≡ cond b (Some x) None
+some_where true x = refl
+some_where false x = refl
 
-pub returns-else-eval_condition : goal.returns-else-eval_condition
-returns-else-eval_condition c = λ s h.
+pub returns-in-Keep : goal.returns-in-Keep
+returns-in-Keep c = λ s h.
     let k = keep_step c.args.entries.now c.args.at _ c.in-Keep.condition s c.in-Keep.ensures.stands h in
-    sym (ap (λ z. stepped z c.args.row) k.1 ∙ cond-false (holds k.0 c.args.row) (Some c.args.row) None (sym (c.eval_condition.ensures k.0 k.2) ∙ c.if-eval_condition.false))
+    c.then_some.ensures ∙ ap (λ b. then_some b c.args.row) (c.eval_condition.ensures k.0 k.2) ∙ some_where (holds k.0 c.args.row) c.args.row ∙ sym (ap (λ z. stepped z c.args.row) k.1)
 
 pub returns-in-Put : goal.returns-in-Put
 returns-in-Put c = λ s h.

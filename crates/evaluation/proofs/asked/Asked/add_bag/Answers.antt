@@ -20,8 +20,8 @@ add_leaf-total-requires g c =
     let n = c.in-Some.nth in
     let found = c.in-Some-find_route.ensures h.tree h.is in
     let so_far = c.loop-nth.invariant.0
-        ∙ ap (λ i. leaves_total (added es c.args.addend) (sources_of p) (take i (leaves_of (part_at es c.args.bag)))) (sym c.in-Some.ensures.steps.0)
-        ∙ ap (λ q. leaves_total (added es c.args.addend) (sources_of p) (take n (leaves_of q))) h.is in
+    ∙ ap (λ i. leaves_total (added es c.args.addend) (sources_of p) (take i (leaves_of (part_at es c.args.bag)))) (sym c.in-Some.ensures.steps.0)
+    ∙ ap (λ q. leaves_total (added es c.args.addend) (sources_of p) (take n (leaves_of q))) h.is in
     (get_or (leaves h.tree) n no_leaf, leaf_adds es c.args.bag c.args.addend p h n found.0 _ so_far c.in-Some-find_route.route found.1)
 
 pub loop-nth-preserved : goal.loop-nth-preserved
@@ -33,14 +33,15 @@ loop-nth-preserved g c =
     let n = c.in-Some.nth in
     let found = c.in-Some-find_route.ensures h.tree h.is in
     let so_far = c.loop-nth.invariant.0
-        ∙ ap (λ i. leaves_total (added es c.args.addend) (sources_of p) (take i (leaves_of (part_at es c.args.bag)))) (sym c.in-Some.ensures.steps.0)
-        ∙ ap (λ q. leaves_total (added es c.args.addend) (sources_of p) (take n (leaves_of q))) h.is in
-    (to_z-of_z w64 c.add_leaf-total.result (record { sfits = c.add_leaf-total.type_inv })
-    ∙ c.add_leaf-total.ensures (get_or (leaves h.tree) n no_leaf) (leaf_adds es c.args.bag c.args.addend p h n found.0 _ so_far c.in-Some-find_route.route found.1)
-    ∙ leaf_added es c.args.bag c.args.addend p h n found.0 _ so_far
-    ∙ ap (λ i. leaves_total (added es c.args.addend) (sources_of p) (take i (leaves h.tree))) (sym c.in-Some.ensures.steps.1)
-    ∙ ap (λ q. leaves_total (added es c.args.addend) (sources_of p) (take c.next.new.self.start (leaves_of q))) (sym h.is),
-    omega (arith, c.in-Some.ensures.steps.1, found.2))
+    ∙ ap (λ i. leaves_total (added es c.args.addend) (sources_of p) (take i (leaves_of (part_at es c.args.bag)))) (sym c.in-Some.ensures.steps.0)
+    ∙ ap (λ q. leaves_total (added es c.args.addend) (sources_of p) (take n (leaves_of q))) h.is in (
+      to_z-of_z w64 c.add_leaf-total.result (record { sfits = c.add_leaf-total.type_inv })
+          ∙ c.add_leaf-total.ensures (get_or (leaves h.tree) n no_leaf) (leaf_adds es c.args.bag c.args.addend p h n found.0 _ so_far c.in-Some-find_route.route found.1)
+          ∙ leaf_added es c.args.bag c.args.addend p h n found.0 _ so_far
+          ∙ ap (λ i. leaves_total (added es c.args.addend) (sources_of p) (take i (leaves h.tree))) (sym c.in-Some.ensures.steps.1)
+          ∙ ap (λ q. leaves_total (added es c.args.addend) (sources_of p) (take c.next.new.self.start (leaves_of q))) (sym h.is),
+      omega (arith, c.in-Some.ensures.steps.1, found.2),
+    )
 
 -- the numbers do not end before the leaves
 pub returns-in-None : goal.returns-in-None
