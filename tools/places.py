@@ -46,8 +46,11 @@ def own_enums_flags_numbers():
         r"\{ None \}|\{ Some\(\w+\) \}",
         r"^\s*\w+: bool\b",
         r"\bnumber: \d",
-        r"=> \(\d+, line\)|of_call\(\d",
+        r"=> \(\d+, line\)|of_call\(\d|Refusal::new\(\d",
     )
+    for path, text in files():
+        for m in re.finditer(r"Some\(.*\)\n\s*\} else \{\n\s*None\n", text):
+            yield f"{path}:{text.count(chr(10), 0, m.start()) + 1}: {m.group(0).split(chr(10))[0].strip()} or None"
 
 
 def twins():
@@ -104,7 +107,7 @@ def buffers_and_arenas():
             fields = m.group(2)
             if re.search(r": \[.*; .*\]", fields) and re.search(r"\b(first|len|count|width|begun): usize", fields):
                 yield f"{path}: struct {m.group(1)}: an array with a number beside it"
-    yield from lines_like(r"let mut \w+ = \[.*; \w+\]", r"^\s*(third_last|second_last|last): usize", r"^\s*(left|right|bag|term|condition|number|body|bound): usize,")
+    yield from lines_like(r"let mut \w+ = \[.*; \w+\]", r"^\s*(pub )?(third_last|second_last|last): usize", r"^\s*(left|right|bag|term|condition|number|body|bound): usize,")
 
 
 def switches():

@@ -7,7 +7,8 @@ use lines::heading::Heading;
 use trees::Kind;
 use trees::words::Word;
 
-// The heading with its line, the form's number in the order of opening lines, how many parts are begun, and the positions of the last three parts that are closed.
+// The heading with its line, the form's number in the order of opening lines, how many parts are begun, and the positions
+// of the last three parts that are closed. These have names: as a list they would want a proof that there is no fourth.
 #[derive(Clone, Copy)]
 pub struct Frame {
     pub heading: Heading,
