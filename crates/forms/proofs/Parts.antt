@@ -14,7 +14,7 @@ front n ps (e ∷ es) h =
     let p : Part = build ps e.form in
     front n (ps ++ p ∷ []) es (omega (arith, length_push ps p)) ∙ take-append-le n ps (p ∷ []) h
 
-length_parts_from : (ps : List Part) (es : List Entry) → length (parts_from ps es) ≡ length ps + length es
+pub length_parts_from : (ps : List Part) (es : List Entry) → length (parts_from ps es) ≡ length ps + length es
 unfolding parts_from
 length_parts_from ps [] = omega arith
 length_parts_from ps (e ∷ es) =
