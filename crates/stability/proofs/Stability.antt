@@ -1,5 +1,5 @@
 -- A typed bag and a typed number move by no more than their sensitivities times the distances.
-use Rattle.std.proofs.Common.{◌≡◌, ℕ, zero, suc, ◌+◌, ◌*◌, ◌≤◌, max, Bool, true, cond, eqb, List, [], ◌∷◌, length, get_or, drop, ℤ, pos, negsuc, ◌+ℤ◌, ◌-ℤ◌, ◌*ℤ◌, nat_abs, Ok, sym, refl, ap, ◌∙◌, subst, ap₂, mul-le-mul_left, mul-add, arith}
+use Rattle.std.proofs.Common.{◌≡◌, ℕ, zero, suc, ◌+◌, ◌*◌, ◌≤◌, max, Bool, true, cond, eqb, List, [], ◌∷◌, length, get_or, drop, ℤ, pos, negsuc, ◌+ℤ◌, ◌-ℤ◌, ◌*ℤ◌, nat_abs, Ok, sym, refl, ap, ◌∙◌, subst, ap₂, mul-le-mul_left, arith}
 use native.Mathlib.Nat.{sub-zero}
 use lib.Signed.{le_z}
 use Rattle.bags.proofs.Laws.{distance_bounding, distance_steady}
@@ -113,7 +113,7 @@ let_moved m g h d es y z p q = go z.vars q.0 q.1
     go (r ∷ us) long far =
         let same : length us ≡ length (all_times r y.vars) = omega (arith, length-map y.vars (λ x. r * x), p.0) in
         let short : length us ≡ m = omega arith in
-        (length_added us (all_times r y.vars) same ∙ short, omega (arith, far, mul-le-mul_left r p.1, mul-add r (weighted y.inputs d) (dot y.vars es), weighted_added z.inputs (multiplied r y.inputs) d, weighted_times r y.inputs d, dot_added us (all_times r y.vars) es same, dot_times r y.vars es))
+        (length_added us (all_times r y.vars) same ∙ short, omega (arith, far, mul-le-mul_left r p.1, weighted_added z.inputs (multiplied r y.inputs) d, weighted_times r y.inputs d, dot_added us (all_times r y.vars) es same, dot_times r y.vars es))
 
 module _ (c : Catalogue) (i j : Inputs) where
   setting_moves : (k : ℤ) → place 2 k ≡ true → apart (at i.settings k (pos 0)) (at j.settings k (pos 0)) ≤ weighted (one_at (2 + index k)) (distances i j)
@@ -180,7 +180,7 @@ module _ (c : Catalogue) (i j : Inputs) where
       let d = distances i j in
       let es = gaps vs ws in
       let k = nat_abs v in
-      let far : apart (v *ℤ number a i vs) (v *ℤ number a j ws) ≤ weighted (multiplied k y.inputs) d + dot (all_times k y.vars) es = omega (arith, scale_moves v (number a i vs) (number a j ws), mul-le-mul_left k m.1, mul-add k (weighted y.inputs d) (dot y.vars es), weighted_times k y.inputs d, dot_times k y.vars es) in
+      let far : apart (v *ℤ number a i vs) (v *ℤ number a j ws) ≤ weighted (multiplied k y.inputs) d + dot (all_times k y.vars) es = omega (arith, scale_moves v (number a i vs) (number a j ws), mul-le-mul_left k m.1, weighted_times k y.inputs d, dot_times k y.vars es) in
       moved n (length rs) (apart (v *ℤ number a i vs) (v *ℤ number a j ws)) d es true (multiple v y) x end (length-map y.vars (λ u. k * u) ∙ m.0, far)
   number_moves (clip lo hi a) rs vs ws p q n x e =
       let (y, h, end) = after_ok (number_typed (n + 1) c rs a) (λ y. settled n (le_z lo hi) (cut lo hi y)) x e in
