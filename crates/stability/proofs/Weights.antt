@@ -1,18 +1,10 @@
 -- How weighted distances add up.
 use Rattle.std.proofs.Common.{◌≡◌, ℕ, zero, suc, ◌+◌, ◌-◌, ◌*◌, ◌<◌, ◌≤◌, cond, eqb, List, [], ◌∷◌, map, length, get_or, replicate, refl, ap, ⊎_elim, arith}
-use Rattle.rules.specs.Amounts.{added, all_added, all_times, times}
-use Rattle.rules.specs.declared.amounts.Amounts.{Amounts}
+use Rattle.rules.specs.Amounts.{all_added, all_times}
 use Rattle.std.proofs.lemmas.Bool.{cases_eq, eq-eqb}
 use Rattle.std.specs.List.{range_with_len}
-use Rattle.stability.specs.Stable.{weighted}
 
-pub weighted_added : (a b d : Amounts) → weighted (added a b) d ≡ weighted a d + weighted b d
-weighted_added a b d = omega arith
-
-pub weighted_times : (n : ℕ) (a d : Amounts) → weighted (times n a) d ≡ n * weighted a d
-weighted_times n a d = omega arith
-
--- the same for the variables in scope: sensitivities us, and how far the values are apart
+-- weighted distances for the variables in scope: sensitivities us, and how far the values are apart
 abbrev pub dot : List ℕ → List ℕ → ℕ
 dot [] es = 0
 dot (u ∷ us) [] = 0
