@@ -1,6 +1,7 @@
 -- What arrives from the leaves of a bag is what the bag holds.
 use Rattle.std.proofs.Common.{◌≡◌, Bool, true, false, cond, List, [], ◌∷◌, ◌++◌, map, length, ℤ, pos, ◌+ℤ◌, Some, None, filter, Option, sym, refl, ap, ◌∙◌, ap₂, arith}
 use mathlib.Core.Path.{fun_ext}
+use Rattle.std.proofs.Math.IntN.{+ℤ_idl, +ℤ_idr}
 use Rattle.std.proofs.lemmas.Int.{ints}
 use Rattle.trees.specs.Meaning.{Row, at, holds, rows, total, value, with_cell}
 use Rattle.trees.specs.Tree.Tree.{bag, keep, put, pool}
@@ -33,23 +34,13 @@ leaves_through : (g : Row → ℤ) (sources : List (List Row)) (s : Step) (ls : 
 leaves_through g sources s [] = refl
 leaves_through g sources s (l ∷ ls) = ap₂ ◌+ℤ◌ (leaf_through g sources s l) (leaves_through g sources s ls)
 
-add-zero : (z : ℤ) → z +ℤ pos 0 ≡ z
-add-zero z = omega (arith, ints)
-
-zero-add : (z : ℤ) → pos 0 +ℤ z ≡ z
-zero-add z = omega (arith, ints)
-
-add_assoc : (x y z : ℤ) → x +ℤ (y +ℤ z) ≡ (x +ℤ y) +ℤ z
-add_assoc x y z = omega (arith, ints)
-
 leaves_append : (g : Row → ℤ) (sources : List (List Row)) (ls ms : List Leaf) → leaves_total g sources (ls ++ ms) ≡ leaves_total g sources ls +ℤ leaves_total g sources ms
-leaves_append g sources [] ms = sym (zero-add (leaves_total g sources ms))
-leaves_append g sources (l ∷ ls) ms =
-    ap (λ z. leaf_total g sources l +ℤ z) (leaves_append g sources ls ms) ∙ add_assoc (leaf_total g sources l) (leaves_total g sources ls) (leaves_total g sources ms)
+leaves_append g sources [] ms = omega (arith, ints)
+leaves_append g sources (l ∷ ls) ms = omega (arith, ints, leaves_append g sources ls ms)
 
 total_append : (g : Row → ℤ) (rs ts : List Row) → total g (rs ++ ts) ≡ total g rs +ℤ total g ts
-total_append g [] ts = sym (zero-add (total g ts))
-total_append g (r ∷ rs) ts = ap (λ z. g r +ℤ z) (total_append g rs ts) ∙ add_assoc (g r) (total g rs) (total g ts)
+total_append g [] ts = omega (arith, ints)
+total_append g (r ∷ rs) ts = omega (arith, ints, total_append g rs ts)
 
 total_map : (g : Row → ℤ) (f : Row → Row) (rs : List Row) → total (λ r. g (f r)) rs ≡ total g (map f rs)
 total_map g f [] = refl
@@ -61,10 +52,10 @@ total_kept g p (r ∷ rs) = go (p r) (total_kept g p rs)
   where
     go : (b : Bool) → total (λ r. arriving g (cond (p r) (Some r) None)) rs ≡ total g (filter p rs) → arriving g (cond b (Some r) None) +ℤ total (λ r. arriving g (cond (p r) (Some r) None)) rs ≡ total g (cond b (r ∷ filter p rs) (filter p rs))
     go true rest = ap (λ z. g r +ℤ z) rest
-    go false rest = zero-add (total (λ r. arriving g (cond (p r) (Some r) None)) rs) ∙ rest
+    go false rest = +ℤ_idl _ ∙ rest
 
 pub all_arrive : (b : BagTree) → AllArrive b
-all_arrive (bag k) g sources = add-zero (total g (at sources k []))
+all_arrive (bag k) g sources = +ℤ_idr (total g (at sources k []))
 all_arrive (keep b c) g sources =
     leaves_through g sources (keeps c) (leaves b) ∙ all_arrive b (λ r. arriving g (stepped (keeps c) r)) sources ∙ total_kept g (holds c) (rows b sources)
 all_arrive (put j b t) g sources =

@@ -1,21 +1,20 @@
 -- The routes of a bag's leaves, along the forms of the table.
-use Rattle.std.proofs.Common.{◌≡◌, ℕ, zero, suc, ◌+◌, ◌^◌, ◌<◌, ◌≤◌, ◌⊎◌, List, [], ◌∷◌, ◌++◌, map, length, get_or, drop, ℤ, Some, None, Ok, Err, Option, Result, sym, refl, ap, ◌∙◌, subst, inl, inr, arith}
+use Rattle.std.proofs.Common.{◌≡◌, ℕ, zero, suc, ◌+◌, ◌^◌, ◌<◌, ◌≤◌, ◌⊎◌, List, [], ◌∷◌, ◌++◌, map, length, get_or, drop, ℤ, Some, Ok, Err, Option, Result, sym, refl, ap, ◌∙◌, subst, inl, inr, arith}
 use native.Mathlib.Nat.{two-pow-succ}
-use lib.Pow.{pow-lt}
-use Rattle.std.proofs.lemmas.List.{drop_all, drop_more, get_or-append-add, get_or_append_left, get_or-map, length-append, length-map, length_push}
-use Rattle.std.proofs.lemmas.Bool.{cases_order}
+use Rattle.std.proofs.Math.Pow.{pow_mono}
+use Rattle.std.proofs.lemmas.List.{drop_more, get_or-append-add, get_or_append_left, get_or-map, length-append, length-map, length_push}
 use Rattle.trees.specs.Meaning.{Row}
-use Rattle.trees.specs.Tree.Tree.{keep, put}
+use Rattle.trees.specs.Tree.Tree.{keep, pool, put}
 use Rattle.forms.specs.declared.form.Entry.{Entry}
 use Rattle.forms.specs.declared.form.Form.{Form}
-use Rattle.forms.specs.declared.form.Form.TheVariants.{Keep, Put}
+use Rattle.forms.specs.declared.form.Form.TheVariants.{Keep, Pool, Put}
 use Rattle.forms.specs.declared.route.Route.{Route}
 use Rattle.forms.specs.Leaves.{CalmFrom, CalmStep, CalmWay, Follows, Leads, Leaf, Sought, Step, StepAt, and_then, carried, leaves, no_leaf, stepped, through}
 use Rattle.forms.specs.Leaves.Step.{keeps, puts}
 use Rattle.forms.specs.Route.{from_source, steps_of}
 use Rattle.forms.specs.Table.{BagTree, ConditionTree, Stands, TermTree, build, part_at}
 use Rattle.forms.specs.Table.Part.{a_bag, a_condition, a_term}
-use Rattle.forms.proofs.Parts.{bags, conditions, reached, terms, two}
+use Rattle.forms.proofs.Parts.{Two, bags, conditions, reached, terms, two}
 
 -- one step more at the end of a way
 leads_push : (es : List Entry) (ps : List ℕ) (way : List Step) (p : ℕ) (s : Step) → Leads es ps way → StepAt es p s → Leads es (ps ++ p ∷ []) (way ++ s ∷ [])
@@ -41,41 +40,55 @@ upward es p q f b e stands (inr (j, t, is)) =
     let i = two bags terms bags (put j) (λ _. Unit {0}) es p q t (b, e, tt) (stands ∙ ap (build _) is) in
     record { x = i.x; s = puts j i.y; below = i.first.below; is = i.first.is; here = (i.x, e ∙ ap a_bag i.is); passes = ap leaves i.is }
 
-le_pow : (a q : ℕ) → a ≤ q → 2 ^ a ≤ 2 ^ q
-le_pow a q h = elim (cases_order a q) [ inl e ↦ omega (arith, ap (λ n. 2 ^ n) e) | inr k ↦ elim k [ inl l ↦ omega (arith, pow-lt l) | inr g ↦ absurd (omega arith) ] ]
-
 -- two bags below a position hold at most as many leaves as a bag there
 add_pows : (a b p : ℕ) → a < p → b < p → 2 ^ a + 2 ^ b ≤ 2 ^ p
 add_pows a b zero h k = absurd (omega arith)
-add_pows a b (suc q) h k = omega (arith, two-pow-succ q, le_pow a q (omega arith), le_pow b q (omega arith))
+add_pows a b (suc q) h k = omega (arith, two-pow-succ q, pow_mono {i = a} {j = q} (omega arith), pow_mono {i = b} {j = q} (omega arith))
 
 -- the search below a keep or put form, seen from the form
-pub sought_up : (es : List Entry) (p q n : ℕ) (b : BagTree) (u : Upward es p q b) (r t : Route) → Sought es q (leaves u.x) n (Ok r) → from_source t ≡ from_source r → steps_of t ≡ steps_of r ++ p ∷ [] → Sought es p (leaves b) n (Ok t)
-sought_up es p q n b u r t h source steps =
+pub sought_up : {es : List Entry} {p q n : ℕ} {b : BagTree} {r t : Route} (u : Upward es p q b) → Sought es q (leaves u.x) n (Ok r) → from_source t ≡ from_source r → steps_of t ≡ steps_of r ++ p ∷ [] → Sought es p (leaves b) n (Ok t)
+sought_up {es} {p} {q} {n} {b} {r} {t} u h source steps =
     let ls : List Leaf = leaves u.x in
     let f : Leaf → Leaf = through u.s in
     let there : n < length (map f ls) = omega (arith, h.0, length-map ls f) in
     let same : get_or (map f ls) n no_leaf ≡ f (get_or ls n no_leaf) = get_or-map f ls n no_leaf no_leaf h.0 in
     let leads : Leads es (steps_of t) (f (get_or ls n no_leaf)).way = subst (λ ps. Leads es ps (f (get_or ls n no_leaf)).way) (sym steps) (leads_push es (steps_of r) (get_or ls n no_leaf).way p u.s h.1.leads u.here) in
     let follows : Follows es t (f (get_or ls n no_leaf)) = record { source = source ∙ h.1.source; leads = leads } in
-    subst (λ l. Sought es p l n (Ok t)) (sym u.passes) (there, subst (Follows es t) (sym same) follows, omega (arith, ap length steps, length_push (steps_of r) p, h.2, u.below), omega (arith, h.3, le_pow q p (omega (arith, u.below))))
+    subst (λ l. Sought es p l n (Ok t)) (sym u.passes) (there, subst (Follows es t) (sym same) follows, omega (arith, ap length steps, length_push (steps_of r) p, h.2, u.below), omega (arith, h.3, pow_mono {i = q} {j = p} (omega (arith, u.below))))
 
-pub sought_up_none : (es : List Entry) (p q n m : ℕ) (b : BagTree) (u : Upward es p q b) → Sought es q (leaves u.x) n (Err m) → Sought es p (leaves b) n (Err m)
-sought_up_none es p q n m b u h =
+pub sought_up_none : {es : List Entry} {p q n : ℕ} {b : BagTree} (u : Upward es p q b) (m : ℕ) → Sought es q (leaves u.x) n (Err m) → Sought es p (leaves b) n (Err m)
+sought_up_none {es} {p} {q} {n} {b} u m h =
     let ls : List Leaf = leaves u.x in
     let f : Leaf → Leaf = through u.s in
-    subst (λ l. Sought es p l n (Err m)) (sym u.passes) (omega (arith, h.0, length-map ls f), omega (arith, h.1, length-map ls f, le_pow q p (omega (arith, u.below))))
+    subst (λ l. Sought es p l n (Err m)) (sym u.passes) (omega (arith, h.0, length-map ls f), omega (arith, h.1, length-map ls f, pow_mono {i = q} {j = p} (omega (arith, u.below))))
 
--- the search in the first bag of a pool, and then in the second, seen from the pool
-pub sought_first : (es : List Entry) (p q n : ℕ) (ls ms : List Leaf) (r : Route) → q < p → Sought es q ls n (Ok r) → Sought es p (ls ++ ms) n (Ok r)
-sought_first es p q n ls ms r below h =
-    (omega (arith, h.0, length-append ls ms), subst (Follows es r) (sym (get_or_append_left ls ms no_leaf n h.0)) h.1, omega (arith, h.2), omega (arith, h.3, le_pow q p (omega arith)))
+-- the two bags of a pool, and the search in the first, and then in the second, seen from the pool
+abbrev pub Pooled : List Entry → ℕ → ℕ → ℕ → BagTree → Type 0
+Pooled es p a b t = Two bags bags pool (λ _. Unit {0}) es p a b t
 
-pub sought_second : (es : List Entry) (p a b n m : ℕ) (ls ms : List Leaf) (o : Result Route ℕ) → a < p → b < p → Sought es a ls n (Err m) → Sought es b ms m o → Sought es p (ls ++ ms) n o
-sought_second es p a b n m ls ms (Ok r) k l h g =
-    (omega (arith, h.0, g.0, length-append ls ms), subst (Follows es r) (sym (ap (λ x. get_or (ls ++ ms) x no_leaf) (sym h.0) ∙ get_or-append-add ls ms m no_leaf)) g.1, omega (arith, g.2), omega (arith, h.0, h.1, g.3, add_pows a b p k l))
-sought_second es p a b n m ls ms (Err x) k l h g =
-    (omega (arith, h.0, g.0, length-append ls ms), omega (arith, h.1, g.1, length-append ls ms, add_pows a b p k l))
+pub pooled : (es : List Entry) (p a b : ℕ) (t : BagTree) → part_at es p ≡ a_bag t → Stands es p (Pool a b) → Pooled es p a b t
+pooled es p a b t e stands = two bags bags bags pool (λ _. Unit {0}) es p a b (t, e, tt) stands
+
+pub sought_first : {es : List Entry} {p a b n : ℕ} {t : BagTree} {r : Route} (i : Pooled es p a b t) → Sought es a (leaves i.x) n (Ok r) → Sought es p (leaves t) n (Ok r)
+sought_first {es} {p} {a} {n = n} {r = r} i h =
+    let ls : List Leaf = leaves i.x in
+    let ms : List Leaf = leaves i.y in
+    rw i.is
+    (omega (arith, h.0, length-append ls ms), subst (Follows es r) (sym (get_or_append_left ls ms no_leaf n h.0)) h.1, omega (arith, h.2, i.first.below), omega (arith, h.3, pow_mono {i = a} {j = p} (omega (arith, i.first.below))))
+
+pub sought_second : {es : List Entry} {p a b n : ℕ} {t : BagTree} (i : Pooled es p a b t) (m : ℕ) (o : Result Route ℕ) → Sought es a (leaves i.x) n (Err m) → Sought es b (leaves i.y) m o → Sought es p (leaves t) n o
+sought_second {es} {p} {a} {b} {n} i m o h g = subst (λ t. Sought es p (leaves t) n o) (sym i.is) (go o g)
+  where
+    ls : List Leaf
+    ls = leaves i.x
+
+    ms : List Leaf
+    ms = leaves i.y
+
+    go : (o : Result Route ℕ) → Sought es b ms m o → Sought es p (ls ++ ms) n o
+    go (Ok r) g =
+        (omega (arith, h.0, g.0, length-append ls ms), subst (Follows es r) (sym (ap (λ x. get_or (ls ++ ms) x no_leaf) (sym h.0) ∙ get_or-append-add ls ms m no_leaf)) g.1, omega (arith, g.2, i.second.below), omega (arith, h.0, h.1, g.3, add_pows a b p i.first.below i.second.below))
+    go (Err x) g = (omega (arith, h.0, g.0, length-append ls ms), omega (arith, h.1, g.1, length-append ls ms, add_pows a b p i.first.below i.second.below))
 
 -- the next step of a way
 record Next (es : List Entry) (ps : List ℕ) (i : ℕ) (rest : List Step) : Type 0 where
@@ -92,11 +105,6 @@ next es ps i rest h l = go rest (subst (λ qs. Leads es qs rest) (drop_more ps i
     go [] k = absurd k
     go (s ∷ way) k = record { s = s; after = way; is = refl; here = k.0; leads = k.1 }
 
--- at the end of the positions the way ends too
-ended : (es : List Entry) (way : List Step) → Leads es [] way → way ≡ []
-ended es [] l = refl
-ended es (s ∷ way) l = absurd l
-
 -- the table reaches to a step
 pub step_inside : (es : List Entry) (p : ℕ) (s : Step) → StepAt es p s → p < length es
 step_inside es p (keeps c) h = reached bags (λ _. Unit {0}) es p (keep h.0 c, h.1, tt)
@@ -110,14 +118,12 @@ keep_step es p b q (keeps c) stands (x, e) =
     (c, refl, i.second.is ∙ ap a_condition (sym same))
 keep_step es p b q (puts j t) stands (x, e) =
     let i = two bags conditions bags keep (λ _. Unit {0}) es p b q (put j x t, e, tt) stands in
-    let z : ◌≡◌ {A = ℕ} 0 1 = cc i.is in
-    absurd (omega arith)
+    absurd (cc i.is)
 
 pub put_step : (es : List Entry) (p b q : ℕ) (j : ℤ) (s : Step) → Stands es p (Put j b q) → StepAt es p s → (t : TermTree) × (s ≡ puts j t) × (part_at es q ≡ a_term t)
 put_step es p b q j (keeps c) stands (x, e) =
     let i = two bags terms bags (put j) (λ _. Unit {0}) es p b q (keep x c, e, tt) stands in
-    let z : ◌≡◌ {A = ℕ} 0 1 = cc i.is in
-    absurd (omega arith)
+    absurd (cc i.is)
 put_step es p b q j (puts k t) stands (x, e) =
     let i = two bags terms bags (put j) (λ _. Unit {0}) es p b q (put k x t, e, tt) stands in
     let same : t ≡ i.y = cc i.is in
@@ -136,7 +142,6 @@ pub record Ahead (es : List Entry) (ps : List ℕ) (i at : ℕ) (row : Row) (arr
   pub s : Step
   pub here : StepAt es at s
   pub calm : CalmStep s row
-  pub dropped : stepped s row ≡ None → arrives ≡ None
   pub goes : (r : Row) → stepped s row ≡ Some r → Left es (drop (i + 1) ps) r arrives
 
 pub ahead : (es : List Entry) (ps : List ℕ) (i at : ℕ) (row : Row) (arrives : Option Row) → i < length ps → at ≡ get_or ps i 0 → Left es (drop i ps) row arrives → Ahead es ps i at row arrives
@@ -148,12 +153,5 @@ ahead es ps i at row arrives h e l =
       s = n.s;
       here = subst (λ p. StepAt es p n.s) (sym e) n.here;
       calm = calm.0;
-      dropped = λ d. sym same ∙ ap (λ o. and_then o (carried n.after)) d;
       goes = λ r g. record { way = n.after; leads = n.leads; calm = subst (CalmFrom (CalmWay n.after)) g calm.1; same = sym (ap (λ o. and_then o (carried n.after)) g) ∙ same };
     }
-
--- behind the last step the row has arrived
-pub arrived : (es : List Entry) (ps : List ℕ) (i : ℕ) (row : Row) (arrives : Option Row) → length ps ≤ i → Left es (drop i ps) row arrives → Some row ≡ arrives
-arrived es ps i row arrives h l =
-    let none : l.way ≡ [] = ended es l.way (subst (λ qs. Leads es qs l.way) (drop_all i ps h) l.leads) in
-    sym (ap (λ way. carried way row) none) ∙ l.same

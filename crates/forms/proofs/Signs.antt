@@ -1,6 +1,6 @@
 -- Signed operations whose result is known to lie within a bound.
-use Rattle.std.proofs.Common.{◌≡◌, ℕ, ◌^◌, ◌≤◌, ◌&&◌, eqb, set, ℤ, pos, nat_abs, sym, refl, ap, ◌∙◌, subst, ap₂, arith, w64, SFits, to_z, of_z}
-use lib.Signed.{le_z}
+use Rattle.std.proofs.Common.{◌≡◌, ℕ, ◌^◌, ◌<◌, ◌≤◌, ◌&&◌, eqb, set, ℤ, pos, nat_abs, sym, refl, ap, ◌∙◌, subst, ap₂, arith, w64, SFits, to_z, of_z}
+use lib.Signed.{le_z, mag}
 use Rattle.std.proofs.lemmas.Int.{ints, to_z-of_z}
 use Rattle.trees.specs.Meaning.{Row, clipped, with_cell}
 use Rattle.forms.specs.Calm.{Within, PlaceBelow}
@@ -8,6 +8,10 @@ use Rattle.forms.specs.Calm.{Within, PlaceBelow}
 -- what lies within 10^12 fits 64 bits
 pub fits : (n : ℕ) (z : ℤ) → n ≤ 10 ^ 12 → Within n z → SFits w64 z
 fits n z h k = omega (arith, ints)
+
+-- and so does what is below 2^63
+pub small : (z : ℤ) → mag z < 2 ^ 63 → SFits w64 z
+small z h = omega (arith, ints)
 
 -- the bits of x are those of v
 pub back : (x v : ℤ) → SFits w64 x → x ≡ v → to_z w64 (of_z w64 x) ≡ v

@@ -1,30 +1,20 @@
 -- What is so of every row of a bag is so of what its leaves carry up.
 use Rattle.std.proofs.Common.{ℕ, Bool, true, false, cond, List, [], ◌∷◌, ◌++◌, map, Some, None, filter, Option, sym, subst}
 use Rattle.std.proofs.ByRecursion.{All-append, All-map, All-weaker}
+use Rattle.std.proofs.lemmas.List.Elements.{recursion_from_All}
 use Rattle.std.specs.List.{AllByRecursion}
 use Rattle.trees.specs.Meaning.{Row, at, holds, rows, value, with_cell}
 use Rattle.trees.specs.Tree.Tree.{bag, keep, put, pool}
+use Rattle.trees.proofs.Unique.{all_split}
 use Rattle.forms.specs.Calm.{CalmTerm}
 use Rattle.forms.specs.Leaves.{BagWithin, CalmBag, CalmFrom, CalmStep, CalmWay, Leaf, Spread, Step, WayWithin, and_then, carried, leaves, stepped, through}
 use Rattle.forms.specs.Leaves.Step.{keeps, puts}
 use Rattle.forms.specs.Table.{BagTree}
 use Rattle.forms.proofs.Arrivals.{all_arrive, all_counted, carried_push}
 
-all_first : {X : Type 0} (P : X → Type 0) (xs ys : List X) → AllByRecursion P (xs ++ ys) → AllByRecursion P xs
-all_first P [] ys h = tt
-all_first P (x ∷ xs) ys h = (h.0, all_first P xs ys h.1)
-
-all_second : {X : Type 0} (P : X → Type 0) (xs ys : List X) → AllByRecursion P (xs ++ ys) → AllByRecursion P ys
-all_second P [] ys h = h
-all_second P (x ∷ xs) ys h = all_second P xs ys h.1
-
 all_both : {X : Type 0} (P Q R : X → Type 0) → ((x : X) → P x → Q x → R x) → (xs : List X) → AllByRecursion P xs → AllByRecursion Q xs → AllByRecursion R xs
 all_both P Q R f [] h k = tt
 all_both P Q R f (x ∷ xs) h k = (f x h.0 k.0, all_both P Q R f xs h.1 k.1)
-
-all_every : {X : Type 0} (P : X → Type 0) → ((x : X) → P x) → (xs : List X) → AllByRecursion P xs
-all_every P f [] = tt
-all_every P f (x ∷ xs) = (f x, all_every P f xs)
 
 unkept : (P : Row → Type 0) (p : Row → Bool) (rs : List Row) → AllByRecursion P (filter p rs) → AllByRecursion (λ r. CalmFrom P (cond (p r) (Some r) None)) rs
 unkept P p [] h = tt
@@ -55,7 +45,7 @@ up (bag k) sources P h = (h, tt)
 up (keep b c) sources P h = up_through P sources (keeps c) (leaves b) (up b sources (λ r. CalmFrom P (stepped (keeps c) r)) (unkept P (holds c) (rows b sources) h))
 up (put j b t) sources P h = up_through P sources (puts j t) (leaves b) (up b sources (λ r. CalmFrom P (stepped (puts j t) r)) (unmapped P (λ r. with_cell r j (value t r)) (rows b sources) h))
 up (pool a b) sources P h =
-    All-append (Up P sources) (leaves a) (leaves b) (up a sources P (all_first P (rows a sources) (rows b sources) h)) (up b sources P (all_second P (rows a sources) (rows b sources) h))
+    All-append (Up P sources) (leaves a) (leaves b) (up a sources P (all_split P (rows a sources) (rows b sources) h).0) (up b sources P (all_split P (rows a sources) (rows b sources) h).1)
 
 -- a calm way with a calm step more at its end
 calm_end : (o : Option Row) → CalmFrom (CalmWay []) o
@@ -78,7 +68,7 @@ calm_through sources s ls h k =
     All-map (Calmly sources) (through s) ls (all_both (Calmly sources) (Up (CalmStep s) sources) (λ l. Calmly sources (through s l)) (λ l x y. all_both (CalmWay l.way) (λ r. CalmFrom (CalmStep s) (carried l.way r)) (CalmWay (l.way ++ s ∷ [])) (λ r m n. calm_push l.way s r m n) (at sources l.source []) x y) ls h k)
 
 calm_leaves : (b : BagTree) (sources : List (List Row)) → CalmBag b sources → AllByRecursion (Calmly sources) (leaves b)
-calm_leaves (bag k) sources h = (all_every (CalmWay []) (λ r. tt) (at sources k []), tt)
+calm_leaves (bag k) sources h = (recursion_from_All (CalmWay []) (at sources k []) (λ i d lt. tt), tt)
 calm_leaves (keep b c) sources h = calm_through sources (keeps c) (leaves b) (calm_leaves b sources h.0) (up b sources (CalmStep (keeps c)) h.1)
 calm_leaves (put j b t) sources h =
     calm_through sources (puts j t) (leaves b) (calm_leaves b sources h.0) (up b sources (CalmStep (puts j t)) (All-weaker (CalmTerm t) (CalmStep (puts j t)) (λ r k. (h.1, k)) (rows b sources) h.2))

@@ -41,7 +41,7 @@ steps s last t fit shut roomy = go (fits (first_of s.at.open_forms) (wanted (fir
   where
     go : (x y z : Bool) → x ≡ true → y ≡ false → z ≡ true → after {X = Unit {0}} (cond x (cond y (Err (Misplaced (line_of t))) (cond z (Ok tt) (Err (TooLarge (line_of t))))) (Err (Misplaced (line_of t)))) (λ u. Ok (after_line t s)) ≡ Ok (after_line t s)
     go true false true e f g = refl
-    go true false false e f g = let z : ◌≡◌ {A = Bool} true false = sym g in absurd (true≢false z)
+    go true false false e f g = absurd (false≢true g)
     go true true z e f g = absurd (true≢false f)
     go false y z e f g = absurd (false≢true e)
 

@@ -173,12 +173,12 @@ same_said n r q (Some t) = go (token_heading t)
     go (Err e) = refl
 
 left_over : (n : ℕ) (r : List ℕ) (o : Option (Token Spelling)) (t : Token Heading) (more : List ℕ) → found_read n (with_rest r o) ≡ Ok (t, more) → more ≡ r
-left_over n r None t more e = let z : ◌≡◌ {A = ℕ} 0 1 = cc in absurd (omega arith)
+left_over n r None t more e = absurd (cc)
 left_over n r (Some u) t more e = go (token_heading u) e
   where
     go : (h : Result (Token Heading) LineFault) → after {Y = Token Heading × List ℕ} h (λ v. Ok (v, r)) ≡ Ok (t, more) → more ≡ r
     go (Ok v) f = let pair : ◌≡◌ {A = Token Heading × List ℕ} (t, more) (v, r) = cc in ap (λ x. x.1) pair
-    go (Err x) f = let z : ◌≡◌ {A = ℕ} 0 1 = cc in absurd (omega arith)
+    go (Err x) f = absurd (cc)
 
 -- the first line by itself says what the text says first, and what is left are the other lines
 pub record First (n : ℕ) (bs : List ℕ) : Type 0 where
@@ -209,7 +209,7 @@ first_of_cut n bs (inr x) =
       others = [];
       cut_off = x.1;
       same = refl;
-      left = λ t more e. let z : ◌≡◌ {A = ℕ} 0 1 = cc (sym (ap (found_read n) (token_none n bs x.0)) ∙ e) in absurd (omega arith);
+      left = λ t more e. absurd (cc (sym (ap (found_read n) (token_none n bs x.0)) ∙ e));
     }
 
 first_line : (n : ℕ) (bs : List ℕ) → 0 < length bs → First n bs

@@ -139,11 +139,11 @@ only_trees text e = go (lines_read beginning 1 (lines_of text)) refl e
   where
     kinds : (s : State) (o : Option ℕ) → s.at.wrong ≡ o → lines_read beginning 1 (lines_of text) ≡ Ok s → replied (after (kinds_read o) (λ u. Ok s.entries)) ≡ Ok tt → (text ≡ []) ⊎ TreeOf text (entries_of (after (kinds_read o) (λ u. Ok s.entries)))
     kinds s None w f g = sound text s f w
-    kinds s (Some n) w f g = let z : ◌≡◌ {A = ℕ} 0 1 = cc in absurd (omega arith)
+    kinds s (Some n) w f g = absurd (cc)
 
     go : (r : Result State FormFault) → lines_read beginning 1 (lines_of text) ≡ r → replied (after r (λ s. after (kinds_read s.at.wrong) (λ u. Ok s.entries))) ≡ Ok tt → (text ≡ []) ⊎ TreeOf text (entries_of (after r (λ s. after (kinds_read s.at.wrong) (λ u. Ok s.entries))))
     go (Ok s) f g = kinds s s.at.wrong refl f g
-    go (Err x) f g = let z : ◌≡◌ {A = ℕ} 0 1 = cc in absurd (omega arith)
+    go (Err x) f g = absurd (cc)
 
 -- the tree that is read from a written form is the tree written
 

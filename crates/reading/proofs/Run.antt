@@ -14,13 +14,12 @@ use Rattle.lines.specs.declared.token.Token.TheVariants.{Opening, Leaf, Closing}
 use Rattle.lines.specs.Line.{after, line_read, as_line, Proper}
 use Rattle.reading.proofs.Balance.{taken, length_innermost, step_balanced}
 use Rattle.reading.proofs.Cut.{turn, turn_fault, no_lines}
-use Rattle.reading.proofs.Places.{Admitted, room_below}
+use Rattle.reading.proofs.Places.{Allowed, room_below}
 use Rattle.reading.proofs.Sound.{At, step_at, right_before}
 use Rattle.reading.specs.declared.fault.FormFault.{FormFault}
 use Rattle.reading.specs.declared.frame.Frame.{Frame}
 use Rattle.reading.specs.Frame.{with_begun, with_part}
 use Rattle.reading.specs.Progress.{State, Balanced, innermost, after_line, close_innermost, step}
-use Rattle.reading.specs.Stack.{first_of}
 use Rattle.reading.specs.Text.{lines_of, none, lines_read}
 
 abbrev pub no_token : List (Token Heading) → Bool
@@ -60,10 +59,10 @@ parse (suc k) n (c ∷ cs) s s' h e = go (line_read n (c ∷ cs)) refl (λ more 
   where
     stepped : (t : Token Heading) (more : List ℕ) → line_read n (c ∷ cs) ≡ Ok (t, more) → ((x : State) → lines_read x (n + 1) (lines_of more) ≡ Ok s' → Parsed x more s') → (r : Result State FormFault) → step s (none (lines_of more)) t ≡ r → after r (λ x. lines_read x (n + 1) (lines_of more)) ≡ Ok s' → Parsed s (c ∷ cs) s'
     stepped t more reads ih (Ok x) f g = parsed_more s x s' n (c ∷ cs) more t (omega arith) reads f (ih x g)
-    stepped t more reads ih (Err x) f g = let z : ◌≡◌ {A = ℕ} 0 1 = cc in absurd (omega arith)
+    stepped t more reads ih (Err x) f g = absurd (cc)
 
     go : (r : Result (Token Heading × List ℕ) LineFault) → line_read n (c ∷ cs) ≡ r → ((more : List ℕ) (y : State) → length more ≤ k → lines_read y (n + 1) (lines_of more) ≡ Ok s' → Parsed y more s') → Parsed s (c ∷ cs) s'
-    go (Err x) f ih = let g = turn_fault s n (c ∷ cs) x (omega arith) f in let z : ◌≡◌ {A = ℕ} 0 1 = cc in absurd (omega arith)
+    go (Err x) f ih = let g = turn_fault s n (c ∷ cs) x (omega arith) f in absurd (cc)
     go (Ok x) f ih =
         let there = turn s n (c ∷ cs) x.0 x.1 (omega arith) f in
         stepped x.0 x.1 f (λ y g. ih x.1 y (omega (arith, there.1)) g) (step s (none (lines_of x.1)) x.0) refl (sym there.0 ∙ e)
@@ -103,7 +102,7 @@ first_step s s' t ts e = go (step s (no_token ts) t) refl e
   where
     go : (r : Result State FormFault) → step s (no_token ts) t ≡ r → after r (λ x. tokens_read x ts) ≡ Ok s' → (x : State) × (step s (no_token ts) t ≡ Ok x) × (tokens_read x ts ≡ Ok s')
     go (Ok x) f g = (x, f, g)
-    go (Err x) f g = let z : ◌≡◌ {A = ℕ} 0 1 = cc in absurd (omega arith)
+    go (Err x) f g = absurd (cc)
 
 right_all : (ts : List (Token Heading)) (s s' : State) → tokens_read s ts ≡ Ok s' → s'.at.wrong ≡ None → s.at.wrong ≡ None
 right_all [] s s' e right = let same : s ≡ s' = cc in ap (λ (x : State). x.at.wrong) same ∙ right
@@ -129,13 +128,13 @@ close_open [] s e = ap length e
 close_open (f ∷ fs) s e = length_innermost (with_part (length s.entries)) fs
 
 -- no form is deeper than the limit
-within : (s : State) (last : Bool) (t : Token Heading) (ls : List Line) → Admitted (first_of s.at.open_forms) (length s.at.open_forms) s.at.forms last t → deepest (length (after_line t s).at.open_forms) ls ≤ max_depth → deepest (length s.at.open_forms) (as_line t ∷ ls) ≤ max_depth
+within : (s : State) (last : Bool) (t : Token Heading) (ls : List Line) → Allowed s last t → deepest (length (after_line t s).at.open_forms) ls ≤ max_depth → deepest (length s.at.open_forms) (as_line t ∷ ls) ≤ max_depth
 within s last (Opening h n) ls a d =
-    let below = room_below (first_of s.at.open_forms) (length s.at.open_forms) s.at.forms last a.roomy in
+    let below = room_below (length s.at.open_forms) s.at.forms a.roomy in
     let deep : deepest (suc (length s.at.open_forms)) ls ≤ max_depth = subst (λ (i : ℕ). deepest i ls ≤ max_depth) (ap suc (length_innermost with_begun s.at.open_forms)) d in
     omega (arith, below.0)
 within s last (Leaf h n) ls a d =
-    let below = room_below (first_of s.at.open_forms) (length s.at.open_forms) s.at.forms last a.roomy in
+    let below = room_below (length s.at.open_forms) s.at.forms a.roomy in
     let deep : deepest (length s.at.open_forms) ls ≤ max_depth = subst (λ (i : ℕ). deepest i ls ≤ max_depth) (length_innermost (with_part (length s.entries)) (innermost with_begun s.at.open_forms) ∙ length_innermost with_begun s.at.open_forms) d in
     omega (arith, below.0)
 within s last (Closing n) ls a d = subst (λ (i : ℕ). deepest i ls ≤ max_depth) (close_open s.at.open_forms s refl) d
@@ -169,7 +168,7 @@ balanced [] s s' e b = let same : s ≡ s' = cc in subst Balanced same b
 balanced (t ∷ ts) s s' e b = let x = first_step s s' t ts e in balanced ts x.0 s' x.2 (step_balanced s (no_token ts) t x.0 x.1 b)
 
 -- behind the last line no form is open
-last_shut : (s : State) (t : Token Heading) → Admitted (first_of s.at.open_forms) (length s.at.open_forms) s.at.forms true t → length (after_line t s).at.open_forms ≡ 0
+last_shut : (s : State) (t : Token Heading) → Allowed s true t → length (after_line t s).at.open_forms ≡ 0
 last_shut s (Opening h n) a = absurd (true≢false a.shut)
 last_shut s (Leaf h n) a =
     omega (arith, ltb-false 0 (length s.at.open_forms) a.shut, length_innermost (with_part (length s.entries)) (innermost with_begun s.at.open_forms), length_innermost with_begun s.at.open_forms)

@@ -1,5 +1,5 @@
 -- What is read so far: the trees of the forms that are closed stand in the table, and their lines and those that open the others are the lines so far.
-use Rattle.std.proofs.Common.{◌≡◌, ℕ, ◌+◌, ◌-◌, ◌<◌, Bool, true, false, cond, not, ◌⊎◌, List, [], ◌∷◌, ◌++◌, map, reverse, length, is_some, Some, None, Option, sym, refl, ap, ◌∙◌, subst, ap₂, inl, inr, append_assoc, append-nil, arith}
+use Rattle.std.proofs.Common.{◌≡◌, ℕ, eqb, ◌+◌, ◌-◌, ◌<◌, Bool, true, false, cond, not, ◌⊎◌, List, [], ◌∷◌, ◌++◌, map, reverse, length, is_some, Some, None, Option, sym, refl, ap, ◌∙◌, subst, ap₂, inl, inr, append_assoc, append-nil, arith}
 use Rattle.std.proofs.lemmas.List.{get_or_append_left, get_or_push, length_push, length-append, length-map, map_push, reverse-append, length-reverse}
 use Rattle.std.proofs.lemmas.Bool.{and_parts, eq-eqb, ne_eqb, eqb-true, not-true, false≢true, true≢false}
 use Rattle.std.specs.List.{flat_map}
@@ -16,12 +16,13 @@ use Rattle.trees.specs.Written.Line.{opening, closing}
 use Rattle.forms.specs.declared.form.Entry.{Entry}
 use Rattle.forms.specs.Table.{Part, nth, build, parts_from, parts}
 use Rattle.forms.specs.Table.Part.{bad}
+use Rattle.forms.proofs.Parts.{length_parts_from}
 use Rattle.lines.specs.declared.heading.Heading.{Heading}
 use Rattle.lines.specs.declared.token.Token.{Token}
 use Rattle.lines.specs.declared.token.Token.TheVariants.{Opening, Leaf, Closing}
 use Rattle.lines.specs.Line.{numbers_in, as_line, Counted, Proper}
 use Rattle.reading.proofs.Parts.{Each, each_weaker, each_shift}
-use Rattle.reading.proofs.Places.{Admitted}
+use Rattle.reading.proofs.Places.{Allowed}
 use Rattle.reading.proofs.Typed.{part_of, kind_of, of_kind, Placed, made, built}
 use Rattle.reading.proofs.Wanted.{three_parts}
 use Rattle.reading.specs.declared.frame.Frame.{Frame}
@@ -41,14 +42,9 @@ parts_push : (es : List Entry) (e : Entry) → parts (es ++ e ∷ []) ≡ parts 
 unfolding parts
 parts_push es e = from_push [] es e
 
-from_length : (ps : List Part) (es : List Entry) → length (parts_from ps es) ≡ length ps + length es
-unfolding parts_from
-from_length ps [] = omega arith
-from_length ps (x ∷ es) = omega (arith, from_length (ps ++ build ps x.form ∷ []) es, length_push ps (build ps x.form))
-
 parts_length : (es : List Entry) → length (parts es) ≡ length es
 unfolding parts
-parts_length es = omega (arith, from_length [] es)
+parts_length es = omega (arith, length_parts_from [] es)
 
 -- the tree stands at this position of the table
 pub record Spelt (es : List Entry) (q : ℕ) (t : AnyTree) : Type 0 where
@@ -123,23 +119,18 @@ outer_push es e (f ∷ fs) k ls o = (o.0, o.1, level_push es e f 1 (k ∷ o.0) o
 
 -- kinds
 
+-- a kind is told by its rank
+abbrev kind_ranked : ℕ → Kind
+kind_ranked n = cond (eqb n 0) Term (cond (eqb n 1) Condition (cond (eqb n 2) Bag Number))
+
+ranked_back : (k : Kind) → kind_ranked (rank k) ≡ k
+ranked_back Term = refl
+ranked_back Condition = refl
+ranked_back Bag = refl
+ranked_back Number = refl
+
 rank_same : (j k : Kind) → rank j ≡ rank k → j ≡ k
-rank_same Term Term e = refl
-rank_same Term Condition e = absurd (omega arith)
-rank_same Term Bag e = absurd (omega arith)
-rank_same Term Number e = absurd (omega arith)
-rank_same Condition Term e = absurd (omega arith)
-rank_same Condition Condition e = refl
-rank_same Condition Bag e = absurd (omega arith)
-rank_same Condition Number e = absurd (omega arith)
-rank_same Bag Term e = absurd (omega arith)
-rank_same Bag Condition e = absurd (omega arith)
-rank_same Bag Bag e = refl
-rank_same Bag Number e = absurd (omega arith)
-rank_same Number Term e = absurd (omega arith)
-rank_same Number Condition e = absurd (omega arith)
-rank_same Number Bag e = absurd (omega arith)
-rank_same Number Number e = refl
+rank_same j k e = sym (ranked_back j) ∙ ap kind_ranked e ∙ ranked_back k
 
 wanted_is : (o : Option Kind) (k : Kind) → is_wanted o k ≡ true → o ≡ Some k
 wanted_is None k e = absurd (false≢true e)
@@ -156,7 +147,7 @@ next_is es f ks before ls l =
     ap₂ (maps.slice_get {X = Kind}) (sym l.kinds) count ∙ nth_behind (map kind_of l.done) ks
 
 begin_level : (es : List Entry) (f : Frame) (ks : List Kind) (k : Kind) (before ls : List Line) → Level es f 0 ks before ls → maps.slice_get ks 0 ≡ Some k → (rest : List Kind) × Level es (with_begun f) 1 (k ∷ rest) before ls
-begin_level es f [] k before ls l e = let z : ◌≡◌ {A = ℕ} 0 1 = cc in absurd (omega arith)
+begin_level es f [] k before ls l e = absurd (cc)
 begin_level es f (j ∷ ks) k before ls l e =
     let same : j ≡ k = cc in
     (ks, record { done = l.done; begun = omega (arith, l.begun); kinds = ap (λ (i : Kind). map kind_of l.done ++ (i ∷ ks)) (sym same) ∙ l.kinds; spelt = l.spelt; counted = l.counted; has = l.has; so_far = l.so_far })
@@ -169,8 +160,7 @@ begin es [] forms ls k (inl x) e =
     (sym same, x.1)
 begin es [] forms ls k (inr x) e =
     let z : ◌≡◌ {A = Option Kind} None (Some k) = sym (ap (λ (b : Bool). cond b (Some Number) None) (ne_eqb forms 0 (λ f. omega (arith, x.1)))) ∙ wanted_is (wanted None forms) k e in
-    let w : ◌≡◌ {A = ℕ} 0 1 = cc in
-    absurd (omega arith)
+    absurd (cc)
 begin es (f ∷ fs) forms ls k x e =
     let a = x.0 in
     let level = begin_level es f a.0 k a.1 ls a.2 (sym (next_is es f a.0 a.1 ls a.2) ∙ wanted_is (next_kind f) k e) in
@@ -215,9 +205,9 @@ closed_lines w h (p ∷ ps) e = refl
 
 -- no wrong kind so far, nor at this line
 still_right : (o : Option ℕ) (b : Bool) (n : ℕ) → or_else o (unless b n) ≡ None → (o ≡ None) × (b ≡ true)
-still_right (Some k) b n e = let z : ◌≡◌ {A = ℕ} 0 1 = cc in absurd (omega arith)
+still_right (Some k) b n e = absurd (cc)
 still_right None true n e = (refl, refl)
-still_right None false n e = let z : ◌≡◌ {A = ℕ} 0 1 = cc in absurd (omega arith)
+still_right None false n e = absurd (cc)
 
 kind_fits : (s : State) (h : Heading) (n : ℕ) → (begun_form h n s.at).wrong ≡ None → is_wanted (wanted (first_of s.at.open_forms) s.at.forms) (entry h.word).kind ≡ true
 kind_fits s h n e = (still_right s.at.wrong (is_wanted (wanted (first_of s.at.open_forms) s.at.forms) (entry h.word).kind) n e).1
@@ -232,7 +222,7 @@ right_before (Closing n) s e = go s.at.open_forms e
     go (f ∷ fs) g = g
 
 -- a line more
-pub step_at : (s : State) (last : Bool) (t : Token Heading) (ls : List Line) → Admitted (first_of s.at.open_forms) (length s.at.open_forms) s.at.forms last t → (after_line t s).at.wrong ≡ None → Proper (as_line t) → At s.entries s.at.open_forms s.at.forms ls → At (after_line t s).entries (after_line t s).at.open_forms (after_line t s).at.forms (ls ++ as_line t ∷ [])
+pub step_at : (s : State) (last : Bool) (t : Token Heading) (ls : List Line) → Allowed s last t → (after_line t s).at.wrong ≡ None → Proper (as_line t) → At s.entries s.at.open_forms s.at.forms ls → At (after_line t s).entries (after_line t s).at.open_forms (after_line t s).at.forms (ls ++ as_line t ∷ [])
 step_at s last (Opening h n) ls a right proper x =
     let outer = begin s.entries s.at.open_forms s.at.forms ls (entry h.word).kind x (kind_fits s h n right) in
     (((entry h.word).parts, ls, record { done = []; begun = refl; kinds = refl; spelt = tt; counted = proper; has = (and_parts (is_some (wanted (first_of s.at.open_forms) s.at.forms)) (has_parts h.word) a.fit).1; so_far = refl }, outer), omega arith)

@@ -1,5 +1,5 @@
 -- A form whose parts are of the kinds that its word wants: its tree, and how the table builds it.
-use Rattle.std.proofs.Common.{◌≡◌, ℕ, List, [], ◌∷◌, map, reverse, take, ℤ, sym, refl, ap, ◌∙◌, subst, ap₂, arith}
+use Rattle.std.proofs.Common.{◌≡◌, ℕ, List, [], ◌∷◌, map, reverse, take, ℤ, sym, refl, ap, ◌∙◌, subst, ap₂}
 use mathlib.Core.List.{head-eq_of_cons-eq, tail-eq_of_cons-eq}
 use Rattle.trees.proofs.Induction.{make, Made}
 use Rattle.trees.specs.declared.Kind.{Kind}
@@ -7,9 +7,8 @@ use Rattle.trees.specs.declared.Kind.TheVariants.{Term, Condition, Bag, Number}
 use Rattle.trees.specs.declared.words.Word.{Word}
 use Rattle.trees.specs.declared.words.Word.TheVariants.{Keep, Put, Pool, Col, Lit, Plus, Times, Pick, Less, Equal, Either, Not, Num, Setting, Var, Count, Sum, Add, Sub, Least, Most, Scale, Clip, Let}
 use Rattle.trees.specs.Tree.{Tree, AnyTree, any}
-use Rattle.trees.specs.Tree.Tree.{keep, put, pool, plus, times, pick, less, equal, either, not, count, sum, add, sub, least, most, scale, clip, let_in}
 use Rattle.trees.specs.Words.{entry}
-use Rattle.forms.specs.Table.{Part, as_term, as_condition, as_bag, as_number, of_one, of_two, of_three, nth, build}
+use Rattle.forms.specs.Table.{Part, nth, build}
 use Rattle.forms.specs.Table.Part.{a_term, a_condition, a_bag, a_number}
 use Rattle.reading.proofs.Parts.{Each}
 use Rattle.reading.specs.Frame.{form_with}
@@ -41,8 +40,8 @@ of_kind p k e = subst (λ (j : Kind). (t : Tree j) × (p ≡ any t)) e (p.1, ref
 
 pub typed : (ks : List Kind) (ps : List AnyTree) → map kind_of ps ≡ ks → (ts : Trees ks) × (ps ≡ anys ks ts)
 typed [] [] e = (tt, refl)
-typed [] (p ∷ ps) e = let z : ◌≡◌ {A = ℕ} 0 1 = cc in absurd (omega arith)
-typed (k ∷ ks) [] e = let z : ◌≡◌ {A = ℕ} 0 1 = cc in absurd (omega arith)
+typed [] (p ∷ ps) e = absurd (cc)
+typed (k ∷ ks) [] e = absurd (cc)
 typed (k ∷ ks) (p ∷ ps) e =
     let first = of_kind p k (head-eq_of_cons-eq e) in
     let others = typed ks ps (tail-eq_of_cons-eq e) in
@@ -51,9 +50,6 @@ typed (k ∷ ks) (p ∷ ps) e =
 -- these positions hold these trees
 abbrev pub Placed : List Part → List ℕ → List AnyTree → Type 0
 Placed ps = Each (λ q t before. nth ps q ≡ part_of t)
-
-ap₃ : {A B C D : Type 0} (f : A → B → C → D) {a a' : A} {b b' : B} {c c' : C} → a ≡ a' → b ≡ b' → c ≡ c' → f a b c ≡ f a' b' c'
-ap₃ f {a} {a'} {b} {b'} {c} {c'} e g h = ap₂ (λ x y. f x y c) e g ∙ ap (f a' b') h
 
 -- as many of two numbers as the word has
 abbrev pub own_numbers : Word → ℤ → ℤ → List ℤ
@@ -88,30 +84,30 @@ made_of Let x y ts = record { kind = refl; numbers = refl; parts = refl; folded 
 
 built_of : (w : Word) (x y : ℤ) (ps : List Part) (a b c : ℕ) (ts : Trees (entry w).parts) → Placed ps (c ∷ b ∷ a ∷ []) (reverse (anys (entry w).parts ts)) → build ps (form_with w x y a b c) ≡ part_of (make w (own_numbers w x y) (anys (entry w).parts ts))
 built_of Word.Bag x y ps a b c ts h = refl
-built_of Keep x y ps a b c ts h = ap₂ (of_two (λ (t : Tree Bag) (u : Tree Condition). a_bag (keep t u))) (ap as_bag h.1.0) (ap as_condition h.0)
-built_of Put x y ps a b c ts h = ap₂ (of_two (λ (t : Tree Bag) (u : Tree Term). a_bag (put x t u))) (ap as_bag h.1.0) (ap as_term h.0)
-built_of Pool x y ps a b c ts h = ap₂ (of_two (λ (t : Tree Bag) (u : Tree Bag). a_bag (pool t u))) (ap as_bag h.1.0) (ap as_bag h.0)
+built_of Keep x y ps a b c ts h = rw (h.1.0, h.0)
+built_of Put x y ps a b c ts h = rw (h.1.0, h.0)
+built_of Pool x y ps a b c ts h = rw (h.1.0, h.0)
 built_of Col x y ps a b c ts h = refl
 built_of Lit x y ps a b c ts h = refl
-built_of Plus x y ps a b c ts h = ap₂ (of_two (λ (t : Tree Term) (u : Tree Term). a_term (plus t u))) (ap as_term h.1.0) (ap as_term h.0)
-built_of Times x y ps a b c ts h = ap₂ (of_two (λ (t : Tree Term) (u : Tree Term). a_term (times t u))) (ap as_term h.1.0) (ap as_term h.0)
-built_of Pick x y ps a b c ts h = ap₃ (of_three (λ (t : Tree Condition) (u : Tree Term) (v : Tree Term). a_term (pick t u v))) (ap as_condition h.1.1.0) (ap as_term h.1.0) (ap as_term h.0)
-built_of Less x y ps a b c ts h = ap₂ (of_two (λ (t : Tree Term) (u : Tree Term). a_condition (less t u))) (ap as_term h.1.0) (ap as_term h.0)
-built_of Equal x y ps a b c ts h = ap₂ (of_two (λ (t : Tree Term) (u : Tree Term). a_condition (equal t u))) (ap as_term h.1.0) (ap as_term h.0)
-built_of Either x y ps a b c ts h = ap₂ (of_two (λ (t : Tree Condition) (u : Tree Condition). a_condition (either t u))) (ap as_condition h.1.0) (ap as_condition h.0)
-built_of Not x y ps a b c ts h = ap (of_one (λ (t : Tree Condition). a_condition (not t))) (ap as_condition h.0)
+built_of Plus x y ps a b c ts h = rw (h.1.0, h.0)
+built_of Times x y ps a b c ts h = rw (h.1.0, h.0)
+built_of Pick x y ps a b c ts h = rw (h.1.1.0, h.1.0, h.0)
+built_of Less x y ps a b c ts h = rw (h.1.0, h.0)
+built_of Equal x y ps a b c ts h = rw (h.1.0, h.0)
+built_of Either x y ps a b c ts h = rw (h.1.0, h.0)
+built_of Not x y ps a b c ts h = rw h.0
 built_of Num x y ps a b c ts h = refl
 built_of Setting x y ps a b c ts h = refl
 built_of Var x y ps a b c ts h = refl
-built_of Count x y ps a b c ts h = ap (of_one (λ (t : Tree Bag). a_number (count t))) (ap as_bag h.0)
-built_of Sum x y ps a b c ts h = ap₂ (of_two (λ (t : Tree Bag) (u : Tree Term). a_number (sum x y t u))) (ap as_bag h.1.0) (ap as_term h.0)
-built_of Add x y ps a b c ts h = ap₂ (of_two (λ (t : Tree Number) (u : Tree Number). a_number (add t u))) (ap as_number h.1.0) (ap as_number h.0)
-built_of Sub x y ps a b c ts h = ap₂ (of_two (λ (t : Tree Number) (u : Tree Number). a_number (sub t u))) (ap as_number h.1.0) (ap as_number h.0)
-built_of Least x y ps a b c ts h = ap₂ (of_two (λ (t : Tree Number) (u : Tree Number). a_number (least t u))) (ap as_number h.1.0) (ap as_number h.0)
-built_of Most x y ps a b c ts h = ap₂ (of_two (λ (t : Tree Number) (u : Tree Number). a_number (most t u))) (ap as_number h.1.0) (ap as_number h.0)
-built_of Scale x y ps a b c ts h = ap (of_one (λ (t : Tree Number). a_number (scale x t))) (ap as_number h.0)
-built_of Clip x y ps a b c ts h = ap (of_one (λ (t : Tree Number). a_number (clip x y t))) (ap as_number h.0)
-built_of Let x y ps a b c ts h = ap₂ (of_two (λ (t : Tree Number) (u : Tree Number). a_number (let_in t u))) (ap as_number h.1.0) (ap as_number h.0)
+built_of Count x y ps a b c ts h = rw h.0
+built_of Sum x y ps a b c ts h = rw (h.1.0, h.0)
+built_of Add x y ps a b c ts h = rw (h.1.0, h.0)
+built_of Sub x y ps a b c ts h = rw (h.1.0, h.0)
+built_of Least x y ps a b c ts h = rw (h.1.0, h.0)
+built_of Most x y ps a b c ts h = rw (h.1.0, h.0)
+built_of Scale x y ps a b c ts h = rw h.0
+built_of Clip x y ps a b c ts h = rw h.0
+built_of Let x y ps a b c ts h = rw (h.1.0, h.0)
 
 module _ (w : Word) (x y : ℤ) (ds : List AnyTree) (kinds : map kind_of ds ≡ (entry w).parts) where
   pub made : Made w (own_numbers w x y) ds

@@ -1,5 +1,5 @@
 -- How far an operation moves, from how far its parts do.
-use Rattle.std.proofs.Common.{◌≡◌, ℕ, suc, ◌+◌, ◌-◌, ◌*◌, ◌≤◌, max, true, ℤ, pos, negsuc, ◌+ℤ◌, ◌-ℤ◌, ◌*ℤ◌, nat_abs, ap, ⊎_elim, mul-add, arith}
+use Rattle.std.proofs.Common.{◌≡◌, ℕ, suc, ◌+◌, ◌-◌, ◌*◌, ◌≤◌, max, true, ℤ, pos, negsuc, ◌+ℤ◌, ◌-ℤ◌, ◌*ℤ◌, nat_abs, ap, ⊎_elim, arith}
 use borrow.Author.Differences.{down, le-true, product_is, up}
 use lib.Signed.{le_z}
 use Rattle.std.proofs.lemmas.Bool.{cases_lt}
@@ -31,11 +31,11 @@ scaled_gap k a b =
     (λ h.
     let up_to : a + ((a - b) + (b - a)) ≡ b = omega arith in
     let whole : k * (a + ((a - b) + (b - a))) ≡ k * b = ap (λ m. k * m) up_to in
-    omega (arith, whole, mul-add k a ((a - b) + (b - a))))
+    omega (arith, whole))
     (λ h.
     let up_to : b + ((a - b) + (b - a)) ≡ a = omega arith in
     let whole : k * (b + ((a - b) + (b - a))) ≡ k * a = ap (λ m. k * m) up_to in
-    omega (arith, whole, mul-add k b ((a - b) + (b - a))))
+    omega (arith, whole))
     (cases_lt a b)
 
 apart_is : (x y : ℤ) → apart x y ≡ ((up x + down y) - (up y + down x)) + ((up y + down x) - (up x + down y))
@@ -46,12 +46,12 @@ scale_moves (pos k) x y =
     let a = up x + down y in
     let b = up y + down x in
     let far = ap (λ m. k * m) (apart_is x y) in
-    omega (arith, far, apart_is (pos k *ℤ x) (pos k *ℤ y), scaled_gap k a b, mul-add k (up x) (down y), mul-add k (up y) (down x), product_is (pos k) x, product_is (pos k) y)
+    omega (arith, far, apart_is (pos k *ℤ x) (pos k *ℤ y), scaled_gap k a b, product_is (pos k) x, product_is (pos k) y)
 scale_moves (negsuc k) x y =
     let a = up x + down y in
     let b = up y + down x in
     let far = ap (λ m. suc k * m) (apart_is x y) in
-    omega (arith, far, apart_is (negsuc k *ℤ x) (negsuc k *ℤ y), scaled_gap (suc k) a b, mul-add (suc k) (up x) (down y), mul-add (suc k) (up y) (down x), product_is (negsuc k) x, product_is (negsuc k) y)
+    omega (arith, far, apart_is (negsuc k *ℤ x) (negsuc k *ℤ y), scaled_gap (suc k) a b, product_is (negsuc k) x, product_is (negsuc k) y)
 
 -- a clipped value is no further from 0 than the further of its bounds
 pub clip_size : (lo hi x : ℤ) → le_z lo hi ≡ true → nat_abs (clipped lo hi x) ≤ max (nat_abs lo) (nat_abs hi)

@@ -1,5 +1,5 @@
 -- A typed bag and a typed number move by no more than their sensitivities times the distances.
-use Rattle.std.proofs.Common.{◌≡◌, ℕ, zero, suc, ◌+◌, ◌*◌, ◌≤◌, max, Bool, true, cond, eqb, List, [], ◌∷◌, length, get_or, drop, ℤ, pos, negsuc, ◌+ℤ◌, ◌-ℤ◌, ◌*ℤ◌, nat_abs, Ok, sym, refl, ap, ◌∙◌, subst, ap₂, mul-le-mul_left, mul-add, arith}
+use Rattle.std.proofs.Common.{◌≡◌, ℕ, zero, suc, ◌+◌, ◌*◌, ◌≤◌, max, Bool, true, cond, eqb, List, [], ◌∷◌, length, get_or, drop, ℤ, pos, negsuc, ◌+ℤ◌, ◌-ℤ◌, ◌*ℤ◌, nat_abs, Ok, sym, refl, ap, ◌∙◌, subst, ap₂, mul-le-mul_left, arith}
 use native.Mathlib.Nat.{sub-zero}
 use lib.Signed.{le_z}
 use Rattle.bags.proofs.Laws.{distance_bounding, distance_steady}
@@ -28,7 +28,7 @@ use Rattle.trees.specs.Tree.{Tree}
 use Rattle.trees.specs.Tree.Tree.{bag, keep, put, pool, num, setting, var, count, sum, add, sub, least, most, scale, clip, let_in}
 use Rattle.stability.specs.Stable.{Stable, apart, distances, weighted}
 use Rattle.stability.proofs.Moves.{add_moves, clip_moves, clip_size, least_moves, most_moves, scale_moves, sub_moves}
-use Rattle.stability.proofs.Weights.{dot, dot_added, dot_none, dot_nothing, dot_one, dot_times, length_added, weighted_added, weighted_times}
+use Rattle.stability.proofs.Weights.{dot, dot_added, dot_none, dot_nothing, dot_one, dot_times, length_added}
 
 module _ (c : Catalogue) (i j : Inputs) where
   source_moves : (k : ℤ) → place 2 k ≡ true → distance (rows (bag k) i.sources) (rows (bag k) j.sources) ≤ weighted (one_at (index k)) (distances i j)
@@ -59,7 +59,7 @@ module _ (c : Catalogue) (i j : Inputs) where
       let (y, z, p, q, end) = after_two_ok (bag_typed (n + 1) c a) (bag_typed (past (n + 1) a) c b) f x e in
       let s = settle_ok (or_else (scope_rule n (eqb (length y.columns) (length z.columns))) (bag_rule n (pooled y z))) (pooled y z) x end in
       let same = ap (λ (w : BagType). weighted w.inputs (distances i j)) s.1 in
-      omega (arith, same, weighted_added y.inputs z.inputs (distances i j), bag_moves a (n + 1) y p, bag_moves b (past (n + 1) a) z q, distance_steady.joined (rows a i.sources) (rows a j.sources) (rows b i.sources) (rows b j.sources))
+      omega (arith, same, bag_moves a (n + 1) y p, bag_moves b (past (n + 1) a) z q, distance_steady.joined (rows a i.sources) (rows a j.sources) (rows b i.sources) (rows b j.sources))
 
 -- how far the values of variables are apart
 abbrev gaps : List ℤ → List ℤ → List ℕ
@@ -98,7 +98,7 @@ free rs r a d es g h = (length-replicate (length rs) 0, omega (arith, h, dot_non
 two_moved : (f : Range → Range → Range) (m g h k : ℕ) (d : Amounts) (es : List ℕ) (y z : NumberType) → Moved m d es g y → Moved m d es h z → k ≤ g + h → Moved m d es k (both f y z)
 two_moved f m g h k d es y z p q far =
     let same = p.0 ∙ sym q.0 in
-    (length_added y.vars z.vars same ∙ p.0, omega (arith, far, p.1, q.1, weighted_added y.inputs z.inputs d, dot_added y.vars z.vars es same))
+    (length_added y.vars z.vars same ∙ p.0, omega (arith, far, p.1, q.1, dot_added y.vars z.vars es same))
 
 -- an operation that moves by no more than its two parts together
 pair_moved : (f : Range → Range → Range) (op : ℤ → ℤ → ℤ) → ((x y u v : ℤ) → apart (op x u) (op y v) ≤ apart x y + apart u v) → (n m : ℕ) (d : Amounts) (es : List ℕ) (y z x : NumberType) → settled n true (both f y z) ≡ Ok x → (u v s w : ℤ) → Moved m d es (apart u v) y → Moved m d es (apart s w) z → Moved m d es (apart (op u s) (op v w)) x
@@ -113,7 +113,7 @@ let_moved m g h d es y z p q = go z.vars q.0 q.1
     go (r ∷ us) long far =
         let same : length us ≡ length (all_times r y.vars) = omega (arith, length-map y.vars (λ x. r * x), p.0) in
         let short : length us ≡ m = omega arith in
-        (length_added us (all_times r y.vars) same ∙ short, omega (arith, far, mul-le-mul_left r p.1, mul-add r (weighted y.inputs d) (dot y.vars es), weighted_added z.inputs (multiplied r y.inputs) d, weighted_times r y.inputs d, dot_added us (all_times r y.vars) es same, dot_times r y.vars es))
+        (length_added us (all_times r y.vars) same ∙ short, omega (arith, far, mul-le-mul_left r p.1, dot_added us (all_times r y.vars) es same, dot_times r y.vars es))
 
 module _ (c : Catalogue) (i j : Inputs) where
   setting_moves : (k : ℤ) → place 2 k ≡ true → apart (at i.settings k (pos 0)) (at j.settings k (pos 0)) ≤ weighted (one_at (2 + index k)) (distances i j)
@@ -160,7 +160,7 @@ module _ (c : Catalogue) (i j : Inputs) where
       let cut_term = λ (row : Row). clipped lo hi (value t row) in
       let g = apart (total cut_term us) (total cut_term zs) in
       let same = ap₂ apart (same_total cut_term us) (same_total cut_term zs) in
-      let far : g ≤ weighted (multiplied m y.inputs) (distances i j) = omega (arith, same, distance_bounding.sums cut_term m (λ row. clip_size lo hi (value t row) ok) us zs, mul-le-mul_left m (bag_moves c i j b (n + 1) y h), weighted_times m y.inputs (distances i j)) in
+      let far : g ≤ weighted (multiplied m y.inputs) (distances i j) = omega (arith, same, distance_bounding.sums cut_term m (λ row. clip_size lo hi (value t row) ok) us zs, mul-le-mul_left m (bag_moves c i j b (n + 1) y h)) in
       moved n (length rs) g (distances i j) (gaps vs ws) (le_z lo hi) (f y) x end (free rs (totals y.limit lo hi) (multiplied m y.inputs) (distances i j) (gaps vs ws) g far)
   number_moves (add a b) rs vs ws p q n x e =
       let (y, z, h, k, end) = after_two_ok (number_typed (n + 1) c rs a) (number_typed (past (n + 1) a) c rs b) (λ y z. settled n true (both sums y z)) x e in
@@ -180,7 +180,7 @@ module _ (c : Catalogue) (i j : Inputs) where
       let d = distances i j in
       let es = gaps vs ws in
       let k = nat_abs v in
-      let far : apart (v *ℤ number a i vs) (v *ℤ number a j ws) ≤ weighted (multiplied k y.inputs) d + dot (all_times k y.vars) es = omega (arith, scale_moves v (number a i vs) (number a j ws), mul-le-mul_left k m.1, mul-add k (weighted y.inputs d) (dot y.vars es), weighted_times k y.inputs d, dot_times k y.vars es) in
+      let far : apart (v *ℤ number a i vs) (v *ℤ number a j ws) ≤ weighted (multiplied k y.inputs) d + dot (all_times k y.vars) es = omega (arith, scale_moves v (number a i vs) (number a j ws), mul-le-mul_left k m.1, dot_times k y.vars es) in
       moved n (length rs) (apart (v *ℤ number a i vs) (v *ℤ number a j ws)) d es true (multiple v y) x end (length-map y.vars (λ u. k * u) ∙ m.0, far)
   number_moves (clip lo hi a) rs vs ws p q n x e =
       let (y, h, end) = after_ok (number_typed (n + 1) c rs a) (λ y. settled n (le_z lo hi) (cut lo hi y)) x e in

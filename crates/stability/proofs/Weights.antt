@@ -1,23 +1,10 @@
 -- How weighted distances add up.
-use Rattle.std.proofs.Common.{◌≡◌, ℕ, zero, suc, ◌+◌, ◌-◌, ◌*◌, ◌<◌, ◌≤◌, cond, eqb, List, [], ◌∷◌, map, length, get_or, replicate, refl, ap, ⊎_elim, mul_assoc, add-mul, mul-add, arith}
-use Rattle.rules.specs.Amounts.{added, all_added, all_times, times}
-use Rattle.rules.specs.declared.amounts.Amounts.{Amounts}
+use Rattle.std.proofs.Common.{◌≡◌, ℕ, zero, suc, ◌+◌, ◌-◌, ◌*◌, ◌<◌, ◌≤◌, cond, eqb, List, [], ◌∷◌, map, length, get_or, replicate, refl, ap, ⊎_elim, arith}
+use Rattle.rules.specs.Amounts.{all_added, all_times}
 use Rattle.std.proofs.lemmas.Bool.{cases_eq, eq-eqb}
 use Rattle.std.specs.List.{range_with_len}
-use Rattle.stability.specs.Stable.{weighted}
 
-pub weighted_added : (a b d : Amounts) → weighted (added a b) d ≡ weighted a d + weighted b d
-weighted_added a b d =
-    omega (arith, add-mul a.source_0 b.source_0 d.source_0, add-mul a.source_1 b.source_1 d.source_1, add-mul a.setting_0 b.setting_0 d.setting_0, add-mul a.setting_1 b.setting_1 d.setting_1)
-
-scaled_sum : (n a b c d : ℕ) → n * (a + b + c + d) ≡ n * a + n * b + n * c + n * d
-scaled_sum n a b c d = omega (arith, mul-add n (a + b + c) d, mul-add n (a + b) c, mul-add n a b)
-
-pub weighted_times : (n : ℕ) (a d : Amounts) → weighted (times n a) d ≡ n * weighted a d
-weighted_times n a d =
-    omega (arith, scaled_sum n (a.source_0 * d.source_0) (a.source_1 * d.source_1) (a.setting_0 * d.setting_0) (a.setting_1 * d.setting_1), mul_assoc n a.source_0 d.source_0, mul_assoc n a.source_1 d.source_1, mul_assoc n a.setting_0 d.setting_0, mul_assoc n a.setting_1 d.setting_1)
-
--- the same for the variables in scope: sensitivities us, and how far the values are apart
+-- weighted distances for the variables in scope: sensitivities us, and how far the values are apart
 abbrev pub dot : List ℕ → List ℕ → ℕ
 dot [] es = 0
 dot (u ∷ us) [] = 0
@@ -28,12 +15,12 @@ dot_added [] [] es h = refl
 dot_added [] (v ∷ vs) es h = absurd (omega arith)
 dot_added (u ∷ us) [] es h = absurd (omega arith)
 dot_added (u ∷ us) (v ∷ vs) [] h = refl
-dot_added (u ∷ us) (v ∷ vs) (e ∷ es) h = omega (arith, add-mul u v e, dot_added us vs es (omega arith))
+dot_added (u ∷ us) (v ∷ vs) (e ∷ es) h = omega (arith, dot_added us vs es (omega arith))
 
 pub dot_times : (n : ℕ) (us es : List ℕ) → dot (all_times n us) es ≡ n * dot us es
 dot_times n [] es = omega arith
 dot_times n (u ∷ us) [] = omega arith
-dot_times n (u ∷ us) (e ∷ es) = omega (arith, mul_assoc n u e, mul-add n (u * e) (dot us es), dot_times n us es)
+dot_times n (u ∷ us) (e ∷ es) = omega (arith, dot_times n us es)
 
 pub length_added : (us vs : List ℕ) → length us ≡ length vs → length (all_added us vs) ≡ length us
 length_added [] vs h = refl

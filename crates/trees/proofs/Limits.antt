@@ -1,6 +1,7 @@
 -- The lines of a tree tell its size, its depth and its numbers.
 use Rattle.std.proofs.Common.{◌≡◌, ℕ, suc, ◌+◌, max, List, [], ◌∷◌, ◌++◌, ℤ, sum, sym, refl, ap, ◌∙◌, ap₂, append_assoc, append-nil, arith}
 use mathlib.Core.List.{foldr}
+use Rattle.std.proofs.lemmas.Grind.{flat_map-append}
 use Rattle.std.proofs.lemmas.List.Sums.{sum_by-cons}
 use Rattle.std.specs.List.{flat_map, AllByRecursion}
 use Rattle.trees.proofs.Induction.{folds, induct}
@@ -60,22 +61,18 @@ deep =
 
 -- numbers
 
-joined_append : {X A : Type 0} (f : X → List A) (xs ys : List X) → flat_map f (xs ++ ys) ≡ flat_map f xs ++ flat_map f ys
-joined_append f [] ys = refl
-joined_append f (x ∷ xs) ys = ap (λ zs. f x ++ zs) (joined_append f xs ys) ∙ sym (append_assoc (f x) (flat_map f xs) (flat_map f ys))
-
 abbrev SameNumbers : AnyTree → Type 0
 SameNumbers p = numbers p.1 ≡ flat_map line_numbers (lines p.1)
 
 parts_numbers : (ps : List AnyTree) → AllByRecursion SameNumbers ps → flat_map (λ ns. ns) (folds form_numbers ps) ≡ flat_map line_numbers (flat_map (λ ls. ls) (folds form_lines ps))
 parts_numbers [] all = refl
-parts_numbers (p ∷ ps) all = ap₂ (λ (ns ms : List ℤ). ns ++ ms) all.0 (parts_numbers ps all.1) ∙ sym (joined_append line_numbers (lines p.1) (flat_map (λ ls. ls) (folds form_lines ps)))
+parts_numbers (p ∷ ps) all = ap₂ (λ (ns ms : List ℤ). ns ++ ms) all.0 (parts_numbers ps all.1) ∙ sym (flat_map-append line_numbers (lines p.1) (flat_map (λ ls. ls) (folds form_lines ps)))
 
 form_same_numbers : (w : Word) (ns : List ℤ) (ps : List AnyTree) → AllByRecursion SameNumbers ps → form_numbers w ns (folds form_numbers ps) ≡ flat_map line_numbers (form_lines w ns (folds form_lines ps))
 form_same_numbers w ns [] all = refl
 form_same_numbers w ns (p ∷ ps) all =
     let inner : List Line = flat_map (λ ls. ls) (folds form_lines (p ∷ ps)) in
-    ap (λ ms. ns ++ ms) (parts_numbers (p ∷ ps) all ∙ sym (append-nil (flat_map line_numbers inner)) ∙ sym (joined_append line_numbers inner (closing ∷ [])))
+    ap (λ ms. ns ++ ms) (parts_numbers (p ∷ ps) all ∙ sym (append-nil (flat_map line_numbers inner)) ∙ sym (flat_map-append line_numbers inner (closing ∷ [])))
 
 pub numbers_on_lines : {k : Kind} (t : Tree k) → SameNumbers (any t)
 numbers_on_lines =

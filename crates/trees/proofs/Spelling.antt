@@ -1,7 +1,9 @@
 -- A word and its spelling: each is found by the other.
-use Rattle.std.proofs.Common.{◌≡◌, ℕ, Bool, true, false, cond, leb, List, [], ◌∷◌, Some, Option, sym, refl, ap, ◌∙◌}
+use Rattle.std.proofs.Common.{◌≡◌, ℕ, Bool, true, false, cond, get_or, leb, List, [], ◌∷◌, Some, Option, sym, refl, ap, ◌∙◌}
 use Rattle.std.proofs.lemmas.Slice.Eq.{bytes_eq-Decides}
 use Rattle.std.proofs.lemmas.Bool.{and_parts, leb-true}
+use Rattle.std.proofs.lemmas.List.Elements.{recursion_from_All}
+use Rattle.std.proofs.lemmas.List.Sums.{AllPass-from_list_all}
 use Rattle.std.specs.List.{AllByRecursion, list_all}
 use Rattle.std.specs.Str.{bytes_eq}
 use Rattle.std.specs.Int.{IsInRange, is_in_range}
@@ -74,14 +76,12 @@ pub each_word : (test : Word → Bool) → list_all test all_words ≡ true → 
 unfolding word_spelled
 each_word test all w = found_passes test all_words (entry w).spelling w all (found w)
 
-pub all_from_list_all : {X : Type 0} (test : X → Bool) (P : X → Type 0) → ((x : X) → test x ≡ true → P x) → (xs : List X) → list_all test xs ≡ true → AllByRecursion P xs
-all_from_list_all test P passed [] all = tt
-all_from_list_all test P passed (x ∷ xs) all =
-    let (here, later) = and_parts (test x) (list_all test xs) all in
-    (passed x here, all_from_list_all test P passed xs later)
-
 -- a word is spelled with lower-case letters
 pub letters : (w : Word) → AllByRecursion (IsInRange 97 122) (entry w).spelling
 letters w =
-    all_from_list_all (is_in_range 97 122) (IsInRange 97 122) (λ c e. let (lo, hi) = and_parts (leb 97 c) (leb c 122) e in (leb-true 97 c lo, leb-true c 122 hi)) (entry w).spelling
-    (each_word (λ v. list_all (is_in_range 97 122) (entry v).spelling) refl w)
+    let passes = AllPass-from_list_all (is_in_range 97 122) (entry w).spelling (each_word (λ v. list_all (is_in_range 97 122) (entry v).spelling) refl w) in
+    recursion_from_All (IsInRange 97 122) (entry w).spelling
+    (λ k d lt.
+    let c : ℕ = get_or (entry w).spelling k d in
+    let (lo, hi) = and_parts (leb 97 c) (leb c 122) (passes k d lt) in
+    (leb-true 97 c lo, leb-true c 122 hi))

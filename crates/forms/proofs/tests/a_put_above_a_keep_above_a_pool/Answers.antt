@@ -2,13 +2,13 @@ use Rattle.std.proofs.Common.{refl, arith}
 use Rattle.forms.specs.Table.{part_at, parts, parts_from}
 use Rattle.forms.proofs.tests.a_put_above_a_keep_above_a_pool.Goals as goal
 
-pub find_route-requires : goal.find_route-requires
+pub find_route-requires-clause-is : goal.find_route-requires-clause-is
 unfolding part_at parts parts_from
-find_route-requires g c = record { few = omega arith; is = (_, refl) }
+find_route-requires-clause-is g c = (_, refl)
 
-pub find_route-requires-2 : goal.find_route-requires-2
+pub find_route-requires-2-clause-is : goal.find_route-requires-2-clause-is
 unfolding part_at parts parts_from
-find_route-requires-2 g c = record { few = omega arith; is = (_, refl) }
+find_route-requires-2-clause-is g c = (_, refl)
 
 pub carry-requires : goal.carry-requires
 unfolding part_at parts parts_from

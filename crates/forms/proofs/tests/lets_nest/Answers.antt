@@ -11,17 +11,13 @@ tree = let_in (num (pos 10)) (let_in (sub (var (pos 0)) (setting (pos 1))) (add 
 calm : CalmNumber tree (inputs [] (pos 1 ∷ pos 4 ∷ [])) []
 calm = (omega arith, ((omega arith, ((0, refl, omega arith), omega arith), ((1, refl, omega arith), omega arith)), (omega arith, ((1, refl, omega arith), omega arith), ((0, refl, omega arith), omega arith))))
 
-pub number-requires : goal.number-requires
-number-requires g c =
-    record {
-      spare = omega (arith, c.new.ensures.spare);
-      ready = (
-        [],
-        tree,
-        record {
-          is = unfold part_at parts parts_from in refl;
-          calm = subst (λ vars. CalmNumber tree (inputs [] (pos 1 ∷ pos 4 ∷ [])) vars) (sym c.new.ensures.items) calm;
-          right = λ q n lt e k. absurd (none_totalled _ q n e k (unfold parts parts_from in refl));
-        },
-      );
-    }
+pub number-requires-clause-ready : goal.number-requires-clause-ready
+number-requires-clause-ready g c = (
+  [],
+  tree,
+  record {
+    is = unfold part_at parts parts_from in refl;
+    calm = subst (λ vars. CalmNumber tree (inputs [] (pos 1 ∷ pos 4 ∷ [])) vars) (sym c.new.ensures.items) calm;
+    right = λ q n lt e k. absurd (none_totalled _ q n e k (unfold parts parts_from in refl));
+  },
+)
