@@ -113,23 +113,3 @@ settled_good n first x e =
     let p = or_else_none (unless (bounded number_bound x.range) (refusal 12 n 0)) (unless (at_most sensitivity_bound x.inputs && all_at_most sensitivity_bound vs) (refusal 13 n 0)) (ap is_some (sym e)) in
     let q = and_parts (at_most sensitivity_bound x.inputs) (all_at_most sensitivity_bound vs) (unless_none (at_most sensitivity_bound x.inputs && all_at_most sensitivity_bound vs) (refusal 13 n 0) p.1) in
     record { range = unless_none (bounded number_bound x.range) (refusal 12 n 0) p.0; inputs = q.0; vars = q.1 }
-
--- the numbers and the depth of a form's parts
-abbrev Near : ℤ → Type 0
-Near z = nat_abs z ≤ literal_bound
-
-pub small_one : (a : NumberTree) → AllByRecursion Near (numbers a ++ []) → NumbersWithin literal_bound a
-small_one a all = (all_split Near (numbers a) [] all).0
-
--- what is left of a bound on the depth for each of two parts
-pub record PartsSmall (spare : ℕ) (a b : NumberTree) : Type 0 where
-  pub first : NumbersWithin literal_bound a
-  pub second : NumbersWithin literal_bound b
-  pub first_depth : depth a < spare
-  pub second_depth : depth b < spare
-
-pub small_two : (mk : NumberTree → NumberTree → NumberTree) (spare : ℕ) (t a b : NumberTree) → t ≡ mk a b → NumbersWithin literal_bound t → depth t ≤ spare → (NumbersWithin literal_bound (mk a b) → AllByRecursion Near (numbers a ++ (numbers b ++ []))) → depth (mk a b) ≡ suc (max (depth a) (max (depth b) 0)) → PartsSmall spare a b
-small_two mk spare t a b is small deep own depths =
-    let ns = all_split Near (numbers a) (numbers b ++ []) (own (subst (NumbersWithin literal_bound) is small)) in
-    let d : depth t ≡ suc (max (depth a) (max (depth b) 0)) = ap depth is ∙ depths in
-    record { first = ns.0; second = small_one b ns.1; first_depth = omega arith; second_depth = omega arith }
