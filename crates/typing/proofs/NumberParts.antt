@@ -22,7 +22,6 @@ Near z = nat_abs z ≤ literal_bound
 pub record OneNumber (mk : NumberTree → NumberTree) (es : List Entry) (v : Stack Range max_depth) (p n o i : ℕ) (t : NumberTree) : Type 0 where
   pub a : NumberTree
   pub is : t ≡ mk a
-  pub small : NumbersWithin literal_bound (mk a)
   pub first : NumberAt es v i (n + 1) (o + 1) a
   pub first_below : i < p
 
@@ -41,7 +40,7 @@ module _ {es : List Entry} {v : Stack Range max_depth} {p n o : ℕ} {t : Number
   one_number mk i own depths =
       let small = subst (NumbersWithin literal_bound) i.is at.small in
       let deep : depth t ≡ suc (max (depth i.a) 0) = ap depth i.is ∙ depths i.a in
-      record { a = i.a; is = i.is; small = small; first = record { form = i.first; small = (all_split Near (numbers i.a) [] (own i.a small)).0; shallow = omega (arith, at.shallow) }; first_below = i.first_below }
+      record { a = i.a; is = i.is; first = record { form = i.first; small = (all_split Near (numbers i.a) [] (own i.a small)).0; shallow = omega (arith, at.shallow) }; first_below = i.first_below }
 
   two_numbers : (mk : NumberTree → NumberTree → NumberTree) {f : Form} → SplitTwo mk es p n o f t → ((a b : NumberTree) → NumbersWithin literal_bound (mk a b) → AllByRecursion Near (numbers a ++ (numbers b ++ []))) → ((a b : NumberTree) → depth (mk a b) ≡ suc (max (depth a) (max (depth b) 0))) → TwoNumbers mk es v p n o (spot f 0) (spot f 1) t
   two_numbers mk i own depths =

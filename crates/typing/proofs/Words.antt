@@ -4,11 +4,11 @@ use Rattle.trees.specs.declared.Kind.{Kind}
 use Rattle.trees.specs.declared.Kind.TheVariants.{Bag, Condition, Number, Term}
 use Rattle.trees.specs.Size.{size}
 use Rattle.trees.specs.Tree.{Tree}
-use Rattle.trees.specs.Tree.Tree.{keep, put, pool, plus, times, pick, less, equal, either, not, count, sum, add, sub, least, most, scale, clip, let_in}
+use Rattle.trees.specs.Tree.Tree.{keep, put, pool, plus, times, pick, less, equal, either, not, count, sum}
 use Rattle.forms.specs.declared.form.Entry.{Entry}
 use Rattle.forms.specs.declared.form.Form.TheVariants as form
 use Rattle.forms.specs.Lined.{entry_at}
-use Rattle.forms.specs.Table.{Stands, part_at}
+use Rattle.forms.specs.Table.{part_at}
 use Rattle.typing.specs.Told.{FormAt, into_part}
 use Rattle.typing.proofs.Lengths.{sum_one, sum_three, sum_two}
 use Rattle.typing.proofs.Splits.{SplitOne, SplitThree, SplitTwo, split_one, split_three, split_two, stands}

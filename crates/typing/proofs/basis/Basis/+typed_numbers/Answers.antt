@@ -1,29 +1,24 @@
 -- Each arm takes the number apart, and joins what the calls on its parts ensure.
-use Rattle.std.proofs.Common.{◌≡◌, ℕ, ◌+◌, ◌-◌, ◌<◌, ◌≤◌, max, List, [], ◌∷◌, ◌++◌, length, drop, ℤ, nat_abs, None, Ok, Option, Result, sym, refl, ap, ◌∙◌, subst, ap₂, arith, w64, rules}
+use Rattle.std.proofs.Common.{◌≡◌, ℕ, ◌+◌, ◌-◌, ◌≤◌, max, [], ◌∷◌, length, drop, ℤ, nat_abs, None, Ok, Option, Result, sym, ap, ◌∙◌, subst, ap₂, arith, w64, rules}
 use lib.Signed.{le_z}
 use Rattle.refusals.specs.declared.Refusal.{Refusal}
-use Rattle.sources.specs.Shapes.{columns_of}
 use Rattle.sources.specs.declared.shapes.Range.{Range}
 use Rattle.std.proofs.lemmas.Result.{err_from_is_err_and}
 use Rattle.std.proofs.lemmas.Int.{to_z-of_z}
-use Rattle.forms.specs.declared.form.Entry.{Entry}
 use Rattle.forms.specs.Lined.{no_entry, past}
-use Rattle.forms.specs.Table.{NumberTree}
 use Rattle.rules.specs.Amounts.{none, one_at, times as multiplied}
 use Rattle.rules.specs.Catalogue.{setting_range}
-use Rattle.rules.specs.Ranges.{differences, greater, lesser, point, sums, totals}
-use Rattle.rules.specs.Typing.{NumberType, bag_typed, cut, index, multiple, number_rule, number_typed, place, scope_rule, settle, unbound, variable, term_typed}
-use Rattle.trees.specs.Size.{max_depth, NumbersWithin, depth, literal_bound, size}
-use Rattle.trees.specs.Tree.Tree.{num, setting, var, add, sub, least, most, let_in}
+use Rattle.rules.specs.Ranges.{point, totals}
+use Rattle.rules.specs.Typing.{NumberType, cut, index, multiple, number_rule, number_typed, place, scope_rule, settle, unbound, variable}
+use Rattle.trees.specs.Size.{NumbersWithin, literal_bound, size}
+use Rattle.trees.specs.Tree.Tree.{num, setting, var}
 use Rattle.stacks.specs.Stack.{spare, stacked}
 use Rattle.types.specs.Shown.{NumberGood, number_shown}
-use Rattle.stacks.specs.declared.stack.Stack.{Stack}
-use Rattle.typing.specs.Notes.{bag_notes, columns_in, noted, noted_at, number_note, number_notes, of_number, range_in, term_notes}
-use Rattle.typing.specs.Numbers.{NumberAt, NumberDrafted}
-use Rattle.typing.specs.Told.{Drafted, FormAt}
+use Rattle.typing.specs.Notes.{noted, number_note, number_notes, of_number}
 use Rattle.typing.proofs.Lengths.{bag_count, number_count}
 use Rattle.typing.proofs.Noting.{noted_both, noted_none, noted_whole}
-use Rattle.typing.proofs.NumberSteps.{clip_goes, clip_stops, count_goes, count_stops, let_goes, let_stops, let_stops_later, number_own, number_some, numbers_two, pair_goes, pair_stops, scale_goes, scale_stops, settled_good, sum_goes, sum_stops, sum_stops_later}
+use Rattle.typing.proofs.NumberSteps.{number_own, number_some, numbers_two, settled_good}
+use Rattle.typing.proofs.Stages.{pair_stopped, pair_went, settled}
 use Rattle.typing.proofs.Replies.{drafted}
 use Rattle.typing.proofs.Splits.{line_of, order_of, within}
 use Rattle.typing.proofs.NumberParts.{inside, of_add, of_clip, of_least, of_let, of_most, of_scale, of_sub}
@@ -72,8 +67,7 @@ two_numbers-returns t c =
     let rs = stacked c.args.scope.now in
     let x = c.in_ok-x.ensures n o a at in
     let y = c.in_ok-y.ensures (past n a) (o + size a) b bt in
-    let here : o + size a ≡ o + length (number_notes n k rs a) = ap (λ (i : ℕ). o + i) (sym (number_count a n k rs)) in
-    (numbers_two n k rs a b _ _ x.0 y.0, noted_both c.args.notes.now o (o + size a) (number_notes n k rs a) (number_notes (past n a) k rs b) _ _ x.1 y.1 here (omega (arith, at.form.room)), (x.2, y.2))
+    (numbers_two n k rs a b _ _ x.0 y.0, noted_both c.args.notes.now o (size a) (number_notes n k rs a) (number_notes (past n a) k rs b) _ _ x.1 y.1 (number_count a n k rs) (omega (arith, at.form.room)), (x.2, y.2))
 
 pub draft_number-entry_at-line-requires : goal.draft_number-entry_at-line-requires
 draft_number-entry_at-line-requires t c = within c.requires.3.form
@@ -102,19 +96,18 @@ draft_number-returns-in-Setting t c =
     let type = λ (w : ℤ). unbound (stacked v) (setting_range k (index w)) (one_at (2 + index w)) in
     let value = c.of_setting.ensures v ∙ ap₂ (λ (i : ℕ) (w : ℤ). settle (scope_rule i (place 2 w)) (type w)) line (to_z-of_z w64 z (search rules)) in
     rw is
-    (drafted (number_shown (spare v)) (number_rule n) n (place 2 z) (type z) c.args.notes.now (o + 1) [] c.of_setting.result c.args.notes.now value (sym (noted_none c.args.notes.now (o + 1))))
+    (drafted (number_shown (spare v)) (number_rule n) n (place 2 z) (type z) c.args.notes.now (o + 1) [] c.of_setting.result _ value (sym (noted_none c.args.notes.now (o + 1))))
 
 pub draft_number-returns-in-Var : goal.draft_number-returns-in-Var
 draft_number-returns-in-Var t c =
     λ n o tr at.
-    let k = c.args.self.now.catalogue.now in
     let v = c.args.scope.now in
     let z = c.in-Var.index in
     let line = line_of at.form c.entry_at-line.ensures in
     let is = of_leaf at.form (var z) c.in-Var.ensures.stands in
     let value = c.of_variable.ensures ∙ ap₂ (λ (i : ℕ) (w : ℤ). settle (scope_rule i (place (length (stacked v)) w)) (variable (stacked v) (index w))) line (to_z-of_z w64 z (search rules)) in
     rw is
-    (drafted (number_shown (spare v)) (number_rule n) n (place (length (stacked v)) z) (variable (stacked v) (index z)) c.args.notes.now (o + 1) [] c.of_variable.result c.args.notes.now value (sym (noted_none c.args.notes.now (o + 1))))
+    (drafted (number_shown (spare v)) (number_rule n) n (place (length (stacked v)) z) (variable (stacked v) (index z)) c.args.notes.now (o + 1) [] c.of_variable.result _ value (sym (noted_none c.args.notes.now (o + 1))))
 
 pub draft_number-bag-requires : goal.draft_number-bag-requires
 draft_number-bag-requires t c =
@@ -126,10 +119,8 @@ draft_number-returns-in_err-rows-in-Count t c =
     let p = err_from_is_err_and c.from_residual.result c.from_residual.ensures.1 in
     rw (p.1, p.2)
     (λ n o tr at.
-    let k = c.args.self.now.catalogue.now in
-    let rs = stacked c.args.scope.now in
     let i = of_count at.form (c.in-Count.ensures.value no_entry) in
-    rw i.is (count_stops n k rs i.a _ (c.in_err-rows-in-Count.ensures _ _ _ i.first)))
+    rw (i.is, c.in_err-rows-in-Count.ensures _ _ _ i.first))
 
 pub draft_number-of_count-requires : goal.draft_number-of_count-requires
 draft_number-of_count-requires t c =
@@ -139,12 +130,10 @@ draft_number-of_count-requires t c =
 pub draft_number-returns-in_ok-rows-in-Count : goal.draft_number-returns-in_ok-rows-in-Count
 draft_number-returns-in_ok-rows-in-Count t c =
     λ n o tr at.
-    let k = c.args.self.now.catalogue.now in
     let v = c.args.scope.now in
     let i = of_count at.form (c.in-Count.ensures.value no_entry) in
     let x = c.in_ok-rows-in-Count.ensures _ _ _ i.first in
-    rw i.is
-    (count_goes n k (stacked v) i.a _ (number_shown (spare v) c.of_count.result) (c.of_count.ensures v) x.0, x.1, tt)
+    rw (i.is, x.0) (settled (number_rule n) (c.of_count.ensures v), x.1, tt)
 
 pub draft_number-bag-requires-in-Sum : goal.draft_number-bag-requires-in-Sum
 draft_number-bag-requires-in-Sum t c =
@@ -156,10 +145,8 @@ draft_number-returns-in_err-rows-in-Sum t c =
     let p = err_from_is_err_and c.from_residual-in_err-rows-in-Sum.result c.from_residual-in_err-rows-in-Sum.ensures.1 in
     rw (p.1, p.2)
     (λ n o tr at.
-    let k = c.args.self.now.catalogue.now in
-    let rs = stacked c.args.scope.now in
     let i = of_sum at.form (c.in-Sum.ensures.value no_entry) in
-    rw i.is (sum_stops n k rs i.a c.in-Sum.low c.in-Sum.high i.b _ (c.in_err-rows-in-Sum.ensures _ _ _ i.first)))
+    rw (i.is, c.in_err-rows-in-Sum.ensures _ _ _ i.first))
 
 pub draft_number-columns-requires : goal.draft_number-columns-requires
 draft_number-columns-requires t c =
@@ -169,7 +156,6 @@ draft_number-columns-requires t c =
 pub draft_number-term-requires : goal.draft_number-term-requires
 draft_number-term-requires t c =
     let i = of_sum c.requires.3.form (c.in-Sum.ensures.value no_entry) in
-    let x = c.in_ok-rows-in-Sum.ensures _ _ _ i.first in
     (_, _, i.b, i.second)
 
 pub draft_number-returns-in_err-term-in-Sum : goal.draft_number-returns-in_err-term-in-Sum
@@ -177,10 +163,8 @@ draft_number-returns-in_err-term-in-Sum t c =
     let p = err_from_is_err_and c.from_residual-in_err-term-in-Sum.result c.from_residual-in_err-term-in-Sum.ensures.1 in
     rw (p.1, p.2)
     (λ n o tr at.
-    let k = c.args.self.now.catalogue.now in
-    let rs = stacked c.args.scope.now in
     let i = of_sum at.form (c.in-Sum.ensures.value no_entry) in
-    rw i.is (sum_stops_later n k rs i.a c.in-Sum.low c.in-Sum.high i.b _ _ (c.in_ok-rows-in-Sum.ensures _ _ _ i.first).0 (ap (λ (cs : List Range). term_typed (past (n + 1) i.a) cs i.b) (sym c.columns.ensures) ∙ c.in_err-term-in-Sum.ensures _ _ _ i.second)))
+    rw (i.is, (c.in_ok-rows-in-Sum.ensures _ _ _ i.first).0, ← c.columns.ensures, c.in_err-term-in-Sum.ensures _ _ _ i.second))
 
 pub draft_number-of_sum-requires : goal.draft_number-of_sum-requires
 draft_number-of_sum-requires t c =
@@ -196,7 +180,6 @@ draft_number-of_sum-requires t c =
 pub draft_number-returns-in_ok-term-in-Sum : goal.draft_number-returns-in_ok-term-in-Sum
 draft_number-returns-in_ok-term-in-Sum t c =
     λ n o tr at.
-    let k = c.args.self.now.catalogue.now in
     let v = c.args.scope.now in
     let i = of_sum at.form (c.in-Sum.ensures.value no_entry) in
     let lo = c.in-Sum.low in
@@ -207,13 +190,8 @@ draft_number-returns-in_ok-term-in-Sum t c =
     let line = line_of at.form c.entry_at-line.ensures in
     let type = λ (p q : ℤ). unbound (stacked v) (totals w.shape.limit p q) (multiplied (max (nat_abs p) (nat_abs q)) w.inputs) in
     let value = c.of_sum.ensures v ∙ ap₂ (λ (p q : ℤ). settle (scope_rule c.entry_at-line.result.line (le_z p q)) (type p q)) (to_z-of_z w64 lo (search rules)) (to_z-of_z w64 hi (search rules)) ∙ ap (λ (l : ℕ). settle (scope_rule l (le_z lo hi)) (type lo hi)) line in
-    let ys = λ (cs : List Range). term_notes (past (n + 1) i.a) cs i.b in
-    let here : o + 1 + size i.a ≡ o + 1 + length (bag_notes (n + 1) k i.a) = ap (λ (j : ℕ). o + 1 + j) (sym (bag_count i.a (n + 1) k)) in
-    let noted_now = noted_both c.args.notes.now (o + 1) (o + 1 + size i.a) (bag_notes (n + 1) k i.a) (ys (columns_of w.shape)) _ _ x.1 (y.1 ∙ ap (λ (cs : List Range). noted_at c.bag-in-Sum.new.notes (o + 1 + size i.a) (ys cs)) c.columns.ensures) here (omega (arith, i.first.room)) ∙ ap (λ (cs : List Range). noted_at c.args.notes.now (o + 1) (bag_notes (n + 1) k i.a ++ ys cs)) (sym (ap columns_in x.0)) in
-    let notes = bag_notes (n + 1) k i.a ++ ys (columns_in (bag_typed (n + 1) k i.a)) in
-    rw i.is
-    (subst (λ (s : Result NumberType Refusal). Drafted (number_shown (spare v)) (number_rule n) (λ _. Unit {0}) s c.args.notes.now (o + 1) notes c.of_sum.result c.term.new.notes) (sym (sum_goes n k (stacked v) i.a lo hi i.b _ _ x.0 (ap (λ (cs : List Range). term_typed (past (n + 1) i.a) cs i.b) (sym c.columns.ensures) ∙ y.0)))
-    (drafted (number_shown (spare v)) (number_rule n) n (le_z lo hi) (type lo hi) c.args.notes.now (o + 1) notes c.of_sum.result c.term.new.notes value noted_now))
+    rw (i.is, x.0, ← c.columns.ensures, y.0)
+    (drafted (number_shown (spare v)) (number_rule n) n (le_z lo hi) (type lo hi) c.args.notes.now (o + 1) _ c.of_sum.result _ value (noted_both c.args.notes.now (o + 1) _ _ _ _ _ x.1 y.1 (bag_count i.a _ _) (omega (arith, i.first.room))))
 
 pub draft_number-two_numbers-requires : goal.draft_number-two_numbers-requires
 draft_number-two_numbers-requires t c =
@@ -226,7 +204,7 @@ draft_number-returns-in_err-x-in-Add t c =
     rw (p.1, p.2)
     (λ n o tr at.
     let i = of_add at (c.in-Add.ensures.value no_entry) in
-    rw i.is (pair_stops n _ _ sums i.a i.b _ (c.in_err-x-in-Add.ensures _ _ _ _ i.first i.second)))
+    rw i.is (pair_stopped _ _ _ _ (c.in_err-x-in-Add.ensures _ _ _ _ i.first i.second)))
 
 pub draft_number-plus-requires : goal.draft_number-plus-requires
 draft_number-plus-requires t c =
@@ -239,7 +217,7 @@ draft_number-returns-in_ok-x-in-Add t c =
     λ n o tr at.
     let i = of_add at (c.in-Add.ensures.value no_entry) in
     let e = c.in_ok-x-in-Add.ensures _ _ _ _ i.first i.second in
-    rw i.is (pair_goes n _ _ sums i.a i.b _ _ (c.plus.ensures _ e.2.0 e.2.1) e.0, e.1, tt)
+    rw i.is (pair_went _ _ _ _ e.0 ∙ settled (number_rule n) (c.plus.ensures _ e.2.0 e.2.1), e.1, tt)
 
 pub draft_number-two_numbers-requires-in-Sub : goal.draft_number-two_numbers-requires-in-Sub
 draft_number-two_numbers-requires-in-Sub t c =
@@ -252,7 +230,7 @@ draft_number-returns-in_err-x-in-Sub t c =
     rw (p.1, p.2)
     (λ n o tr at.
     let i = of_sub at (c.in-Sub.ensures.value no_entry) in
-    rw i.is (pair_stops n _ _ differences i.a i.b _ (c.in_err-x-in-Sub.ensures _ _ _ _ i.first i.second)))
+    rw i.is (pair_stopped _ _ _ _ (c.in_err-x-in-Sub.ensures _ _ _ _ i.first i.second)))
 
 pub draft_number-minus-requires : goal.draft_number-minus-requires
 draft_number-minus-requires t c =
@@ -265,7 +243,7 @@ draft_number-returns-in_ok-x-in-Sub t c =
     λ n o tr at.
     let i = of_sub at (c.in-Sub.ensures.value no_entry) in
     let e = c.in_ok-x-in-Sub.ensures _ _ _ _ i.first i.second in
-    rw i.is (pair_goes n _ _ differences i.a i.b _ _ (c.minus.ensures _ e.2.0 e.2.1) e.0, e.1, tt)
+    rw i.is (pair_went _ _ _ _ e.0 ∙ settled (number_rule n) (c.minus.ensures _ e.2.0 e.2.1), e.1, tt)
 
 pub draft_number-two_numbers-requires-in-Least : goal.draft_number-two_numbers-requires-in-Least
 draft_number-two_numbers-requires-in-Least t c =
@@ -278,7 +256,7 @@ draft_number-returns-in_err-x-in-Least t c =
     rw (p.1, p.2)
     (λ n o tr at.
     let i = of_least at (c.in-Least.ensures.value no_entry) in
-    rw i.is (pair_stops n _ _ lesser i.a i.b _ (c.in_err-x-in-Least.ensures _ _ _ _ i.first i.second)))
+    rw i.is (pair_stopped _ _ _ _ (c.in_err-x-in-Least.ensures _ _ _ _ i.first i.second)))
 
 pub draft_number-least-requires : goal.draft_number-least-requires
 draft_number-least-requires t c =
@@ -291,7 +269,7 @@ draft_number-returns-in_ok-x-in-Least t c =
     λ n o tr at.
     let i = of_least at (c.in-Least.ensures.value no_entry) in
     let e = c.in_ok-x-in-Least.ensures _ _ _ _ i.first i.second in
-    rw i.is (pair_goes n _ _ lesser i.a i.b _ _ (c.least.ensures _ e.2.0 e.2.1) e.0, e.1, tt)
+    rw i.is (pair_went _ _ _ _ e.0 ∙ settled (number_rule n) (c.least.ensures _ e.2.0 e.2.1), e.1, tt)
 
 pub draft_number-two_numbers-requires-in-Most : goal.draft_number-two_numbers-requires-in-Most
 draft_number-two_numbers-requires-in-Most t c =
@@ -304,7 +282,7 @@ draft_number-returns-in_err-x-in-Most t c =
     rw (p.1, p.2)
     (λ n o tr at.
     let i = of_most at (c.in-Most.ensures.value no_entry) in
-    rw i.is (pair_stops n _ _ greater i.a i.b _ (c.in_err-x-in-Most.ensures _ _ _ _ i.first i.second)))
+    rw i.is (pair_stopped _ _ _ _ (c.in_err-x-in-Most.ensures _ _ _ _ i.first i.second)))
 
 pub draft_number-most-requires : goal.draft_number-most-requires
 draft_number-most-requires t c =
@@ -317,7 +295,7 @@ draft_number-returns-in_ok-x-in-Most t c =
     λ n o tr at.
     let i = of_most at (c.in-Most.ensures.value no_entry) in
     let e = c.in_ok-x-in-Most.ensures _ _ _ _ i.first i.second in
-    rw i.is (pair_goes n _ _ greater i.a i.b _ _ (c.most.ensures _ e.2.0 e.2.1) e.0, e.1, tt)
+    rw i.is (pair_went _ _ _ _ e.0 ∙ settled (number_rule n) (c.most.ensures _ e.2.0 e.2.1), e.1, tt)
 
 pub draft_number-number-requires : goal.draft_number-number-requires
 draft_number-number-requires t c =
@@ -330,14 +308,12 @@ draft_number-returns-in_err-x-in-Scale t c =
     rw (p.1, p.2)
     (λ n o tr at.
     let i = of_scale at (c.in-Scale.ensures.value no_entry) in
-    rw i.is (scale_stops n _ _ i.a c.in-Scale.factor _ (c.in_err-x-in-Scale.ensures _ _ _ i.first)))
+    rw (i.is, c.in_err-x-in-Scale.ensures _ _ _ i.first))
 
-pub draft_number-scaled-requires : goal.draft_number-scaled-requires
-draft_number-scaled-requires t c =
+pub draft_number-scaled-requires-clause-good : goal.draft_number-scaled-requires-clause-good
+draft_number-scaled-requires-clause-good t c =
     let i = of_scale c.requires.3 (c.in-Scale.ensures.value no_entry) in
-    let near : nat_abs c.in-Scale.factor ≤ literal_bound = i.small.0 in
-    let back = to_z-of_z w64 c.in-Scale.factor (search rules) in
-    record { factor = omega (arith, ap nat_abs back); good = (_, (c.in_ok-x-in-Scale.ensures _ _ _ i.first).2) }
+    (_, (c.in_ok-x-in-Scale.ensures _ _ _ i.first).2)
 
 pub draft_number-returns-in_ok-x-in-Scale : goal.draft_number-returns-in_ok-x-in-Scale
 draft_number-returns-in_ok-x-in-Scale t c =
@@ -345,7 +321,7 @@ draft_number-returns-in_ok-x-in-Scale t c =
     let i = of_scale at (c.in-Scale.ensures.value no_entry) in
     let e = c.in_ok-x-in-Scale.ensures _ _ _ i.first in
     let x = number_shown (spare c.args.scope.now) c.in_ok-x-in-Scale.x in
-    rw i.is (scale_goes n _ _ i.a c.in-Scale.factor x _ (c.scaled.ensures c.args.scope.now e.2 ∙ ap (λ (z : ℤ). multiple z x) (to_z-of_z w64 c.in-Scale.factor (search rules))) e.0, e.1, tt)
+    rw (i.is, e.0) (settled (number_rule n) (c.scaled.ensures c.args.scope.now e.2 ∙ ap (λ (z : ℤ). multiple z x) (to_z-of_z w64 c.in-Scale.factor (search rules))), e.1, tt)
 
 pub draft_number-number-requires-in-Clip : goal.draft_number-number-requires-in-Clip
 draft_number-number-requires-in-Clip t c =
@@ -358,12 +334,11 @@ draft_number-returns-in_err-x-in-Clip t c =
     rw (p.1, p.2)
     (λ n o tr at.
     let i = of_clip at (c.in-Clip.ensures.value no_entry) in
-    rw i.is (clip_stops n _ _ i.a c.in-Clip.low c.in-Clip.high _ (c.in_err-x-in-Clip.ensures _ _ _ i.first)))
+    rw (i.is, c.in_err-x-in-Clip.ensures _ _ _ i.first))
 
 pub draft_number-returns-in_ok-x-in-Clip : goal.draft_number-returns-in_ok-x-in-Clip
 draft_number-returns-in_ok-x-in-Clip t c =
     λ n o tr at.
-    let k = c.args.self.now.catalogue.now in
     let v = c.args.scope.now in
     let i = of_clip at (c.in-Clip.ensures.value no_entry) in
     let lo = c.in-Clip.low in
@@ -372,9 +347,8 @@ draft_number-returns-in_ok-x-in-Clip t c =
     let x = number_shown (spare v) c.in_ok-x-in-Clip.x in
     let line = line_of at.form c.entry_at-line.ensures in
     let value = c.clipped.ensures (spare v) ∙ ap₂ (λ (p q : ℤ). settle (scope_rule c.entry_at-line.result.line (le_z p q)) (cut p q x)) (to_z-of_z w64 lo (search rules)) (to_z-of_z w64 hi (search rules)) ∙ ap (λ (l : ℕ). settle (scope_rule l (le_z lo hi)) (cut lo hi x)) line in
-    rw i.is
-    (subst (λ (s : Result NumberType Refusal). Drafted (number_shown (spare v)) (number_rule n) (λ _. Unit {0}) s c.args.notes.now (o + 1) (number_notes (n + 1) k (stacked v) i.a) c.clipped.result c.number-in-Clip.new.notes) (sym (clip_goes n k (stacked v) i.a lo hi x e.0))
-    (drafted (number_shown (spare v)) (number_rule n) n (le_z lo hi) (cut lo hi x) c.args.notes.now (o + 1) (number_notes (n + 1) k (stacked v) i.a) c.clipped.result c.number-in-Clip.new.notes value e.1))
+    rw (i.is, e.0)
+    (drafted (number_shown (spare v)) (number_rule n) n (le_z lo hi) (cut lo hi x) c.args.notes.now (o + 1) _ c.clipped.result _ value e.1)
 
 pub draft_number-number-requires-in-Let : goal.draft_number-number-requires-in-Let
 draft_number-number-requires-in-Let t c =
@@ -386,15 +360,8 @@ draft_number-returns-in_err-x-in-Let t c =
     let p = err_from_is_err_and c.from_residual-in_err-x-in-Let.result c.from_residual-in_err-x-in-Let.ensures.1 in
     rw (p.1, p.2)
     (λ n o tr at.
-    let k = c.args.self.now.catalogue.now in
-    let rs = stacked c.args.scope.now in
     let i = of_let at (c.in-Let.ensures.value no_entry) in
-    rw i.is (let_stops n k rs i.a i.b _ (c.in_err-x-in-Let.ensures _ _ _ i.first)))
-
-pub draft_number-with-inner-requires : goal.draft_number-with-inner-requires
-draft_number-with-inner-requires t c =
-    let i = of_let c.requires.3 (c.in-Let.ensures.value no_entry) in
-    omega (arith, i.second_deep)
+    rw (i.is, c.in_err-x-in-Let.ensures _ _ _ i.first))
 
 pub draft_number-number-requires-in-Let-2 : goal.draft_number-number-requires-in-Let-2
 draft_number-number-requires-in-Let-2 t c =
@@ -407,35 +374,29 @@ draft_number-returns-in_err-y-in-Let t c =
     let p = err_from_is_err_and c.from_residual-in_err-y-in-Let.result c.from_residual-in_err-y-in-Let.ensures.1 in
     rw (p.1, p.2)
     (λ n o tr at.
-    let k = c.args.self.now.catalogue.now in
-    let rs = stacked c.args.scope.now in
     let i = of_let at (c.in-Let.ensures.value no_entry) in
     let second = inside i c.with-inner.result c.with-inner.ensures.spare in
-    rw i.is (let_stops_later n k rs i.a i.b _ _ (c.in_ok-x-in-Let.ensures _ _ _ i.first).0 (ap (λ (l : List Range). number_typed (past (n + 1) i.a) k l i.b) (sym c.with-inner.ensures.items) ∙ c.in_err-y-in-Let.ensures _ _ _ second)))
+    rw (i.is, (c.in_ok-x-in-Let.ensures _ _ _ i.first).0, ← c.with-inner.ensures.items, c.in_err-y-in-Let.ensures _ _ _ second))
 
-pub draft_number-named-requires : goal.draft_number-named-requires
-draft_number-named-requires t c =
+pub draft_number-named-requires-clause-bound : goal.draft_number-named-requires-clause-bound
+draft_number-named-requires-clause-bound t c =
     let i = of_let c.requires.3 (c.in-Let.ensures.value no_entry) in
-    let second = inside i c.with-inner.result c.with-inner.ensures.spare in
+    (c.in_ok-x-in-Let.ensures _ _ _ i.first).2
+
+pub draft_number-named-requires-clause-body : goal.draft_number-named-requires-clause-body
+draft_number-named-requires-clause-body t c =
+    let i = of_let c.requires.3 (c.in-Let.ensures.value no_entry) in
     let inner : spare c.with-inner.result ≡ spare c.args.scope.now - 1 = omega (arith, c.with-inner.ensures.spare) in
-    let y = (c.in_ok-y-in-Let.ensures _ _ _ second).2 in
-    record { room = omega (arith, i.second_deep); bound = (c.in_ok-x-in-Let.ensures _ _ _ i.first).2; body = subst (λ (j : ℕ). NumberGood j c.in_ok-y-in-Let.y) inner y }
+    subst (λ (j : ℕ). NumberGood j c.in_ok-y-in-Let.y) inner (c.in_ok-y-in-Let.ensures _ _ _ (inside i c.with-inner.result c.with-inner.ensures.spare)).2
 
 pub draft_number-returns-in_ok-y-in-Let : goal.draft_number-returns-in_ok-y-in-Let
 draft_number-returns-in_ok-y-in-Let t c =
     λ n o tr at.
-    let k = c.args.self.now.catalogue.now in
-    let v = c.args.scope.now in
-    let rs = stacked v in
     let i = of_let at (c.in-Let.ensures.value no_entry) in
     let second = inside i c.with-inner.result c.with-inner.ensures.spare in
-    let inner : spare c.with-inner.result ≡ spare v - 1 = omega (arith, c.with-inner.ensures.spare) in
+    let inner : spare c.with-inner.result ≡ spare c.args.scope.now - 1 = omega (arith, c.with-inner.ensures.spare) in
     let x = c.in_ok-x-in-Let.ensures _ _ _ i.first in
     let y = c.in_ok-y-in-Let.ensures _ _ _ second in
-    let typed = (ap (λ (l : List Range). number_typed (past (n + 1) i.a) k l i.b) (sym c.with-inner.ensures.items) ∙ y.0 ∙ ap (λ (j : ℕ). Ok (number_shown j c.in_ok-y-in-Let.y)) inner) in
-    let here : o + 1 + size i.a ≡ o + 1 + length (number_notes (n + 1) k rs i.a) = ap (λ (j : ℕ). o + 1 + j) (sym (number_count i.a (n + 1) k rs)) in
-    let ys = λ (l : List Range). number_notes (past (n + 1) i.a) k l i.b in
-    let scope : stacked c.with-inner.result ≡ range_in (number_typed (n + 1) k rs i.a) ∷ rs = c.with-inner.ensures.items ∙ ap (λ (r : Result NumberType Refusal). range_in r ∷ rs) (sym x.0) in
-    let noted_now = noted_both c.args.notes.now (o + 1) (o + 1 + size i.a) (number_notes (n + 1) k rs i.a) (ys (stacked c.with-inner.result)) _ _ x.1 y.1 here (omega (arith, i.first.form.room)) ∙ ap (λ (l : List Range). noted_at c.args.notes.now (o + 1) (number_notes (n + 1) k rs i.a ++ ys l)) scope in
-    rw i.is
-    (let_goes n k rs i.a i.b (number_shown (spare v) c.in_ok-x-in-Let.x) (number_shown (spare v - 1) c.in_ok-y-in-Let.y) (number_shown (spare v) c.named.result) c.named.ensures x.0 typed, noted_now, tt)
+    let body = y.0 ∙ ap (λ (j : ℕ). Ok (number_shown j c.in_ok-y-in-Let.y)) inner in
+    rw (i.is, x.0, ← c.with-inner.ensures.items, body)
+    (settled (number_rule n) c.named.ensures, noted_both c.args.notes.now (o + 1) _ _ _ _ _ x.1 y.1 (number_count i.a _ _ _) (omega (arith, i.first.form.room)), tt)

@@ -1,25 +1,21 @@
 -- Each arm takes the form apart, and joins what the calls on its parts ensure.
-use Rattle.std.proofs.Common.{◌≡◌, ℕ, ◌+◌, ◌≤◌, List, [], ◌∷◌, ◌++◌, length, drop, ℤ, None, Ok, Option, Result, sym, refl, ap, ◌∙◌, subst, ap₂, arith, w64, rules}
+use Rattle.std.proofs.Common.{◌≡◌, ℕ, ◌+◌, [], ◌∷◌, length, drop, ℤ, None, Ok, Option, Result, sym, refl, ap, ◌∙◌, ap₂, arith, w64, rules}
 use Rattle.refusals.specs.declared.Refusal.{Refusal}
 use Rattle.sources.specs.Shapes.{column}
 use Rattle.std.proofs.lemmas.Result.{err_from_is_err_and}
 use Rattle.std.proofs.lemmas.Int.{to_z-of_z}
-use Rattle.forms.specs.declared.form.Entry.{Entry}
-use Rattle.forms.specs.Lined.{no_entry, past}
-use Rattle.forms.specs.Table.{ConditionTree, TermTree}
+use Rattle.forms.specs.Lined.{no_entry}
 use Rattle.rules.specs.Ranges.{point}
-use Rattle.rules.specs.Typing.{condition_typed, index, place, scope_rule, settle, term_rule, term_typed}
-use Rattle.trees.specs.Size.{size}
+use Rattle.rules.specs.Typing.{index, place, scope_rule, settle, term_rule, term_typed}
 use Rattle.trees.specs.Tree.Tree.{col, lit}
 use Rattle.sources.specs.declared.shapes.Range.{Range}
-use Rattle.typing.specs.Notes.{condition_note, condition_notes, noted, noted_at, term_note, term_notes}
-use Rattle.typing.specs.Terms.{ConditionDrafted, TermDrafted}
-use Rattle.typing.specs.declared.note.Note.{Note}
+use Rattle.typing.specs.Notes.{condition_note, condition_notes, noted, term_note, term_notes}
 use Rattle.typing.proofs.Lengths.{condition_count, term_count}
-use Rattle.typing.proofs.Noting.{noted_more, noted_none, noted_whole}
+use Rattle.typing.proofs.Noting.{noted_both, noted_none, noted_whole}
 use Rattle.typing.proofs.Replies.{drafted}
 use Rattle.typing.proofs.Splits.{line_of, order_of, within}
-use Rattle.typing.proofs.TermSteps.{behind, condition_own, condition_some, either_first, either_stops, less_goes, less_stops, pick_goes, pick_stops, pick_stops_later, plus_goes, plus_stops, settled_within, term_own, term_some, terms_two, times_goes, times_stops, wider}
+use Rattle.typing.proofs.Stages.{pair_stopped, pair_went, settled}
+use Rattle.typing.proofs.TermSteps.{behind, condition_own, condition_some, only, settled_within, term_own, term_some, terms_two, wider}
 use Rattle.typing.proofs.Words.{of_either, of_equal, of_leaf, of_less, of_not, of_pick, of_plus, of_times}
 use Rattle.typing.proofs.terms.TermBasis.+typed_terms.Goals as goal
 
@@ -59,18 +55,12 @@ term-returns t c =
 pub two_terms-returns : goal.two_terms-returns
 two_terms-returns t c =
     λ n o a b at bt.
-    let cs = c.args.self.now.columns.now in
     let x = c.in_ok-x.ensures n o a at in
-    let y = c.in_ok-y.ensures (past n a) (o + size a) b bt in
-    let here : o + size a ≡ o + length (term_notes n cs a) = ap (λ (i : ℕ). o + i) (sym (term_count a n cs)) in
-    let fits : o ≤ length c.args.notes.now = omega (arith, at.room) in
-    (terms_two n cs a b c.in_ok-x.x c.in_ok-y.y x.0 y.0, y.1 ∙ ap (λ (l : List Note). noted_at l (o + size a) (term_notes (past n a) cs b)) x.1 ∙ noted_more c.args.notes.now o (o + size a) (term_notes n cs a) (term_notes (past n a) cs b) here fits, (x.2, y.2))
+    let y = c.in_ok-y.ensures _ _ b bt in
+    (terms_two n _ a b _ _ x.0 y.0, noted_both c.args.notes.now o _ _ _ _ _ x.1 y.1 (term_count a _ _) (omega (arith, at.room)), (x.2, y.2))
 
 pub draft_term-form_at-requires : goal.draft_term-form_at-requires
 draft_term-form_at-requires t c = within c.requires.3
-
-pub draft_term-entry_at-requires : goal.draft_term-entry_at-requires
-draft_term-entry_at-requires t c = within c.requires.3
 
 pub draft_term-returns-in-Col : goal.draft_term-returns-in-Col
 draft_term-returns-in-Col t c =
@@ -100,9 +90,8 @@ draft_term-returns-in_err-x-in-Plus t c =
     let p = err_from_is_err_and c.from_residual.result c.from_residual.ensures.1 in
     rw (p.1, p.2)
     (λ n o tr at.
-    let cs = c.args.self.now.columns.now in
     let i = of_plus at (c.in-Plus.ensures.value no_entry) in
-    rw i.is (plus_stops n cs i.a i.b _ (c.in_err-x-in-Plus.ensures _ _ _ _ i.first i.second)))
+    rw i.is (pair_stopped _ _ _ _ (c.in_err-x-in-Plus.ensures _ _ _ _ i.first i.second)))
 
 pub draft_term-sums-requires : goal.draft_term-sums-requires
 draft_term-sums-requires t c =
@@ -113,10 +102,9 @@ draft_term-sums-requires t c =
 pub draft_term-returns-in_ok-x-in-Plus : goal.draft_term-returns-in_ok-x-in-Plus
 draft_term-returns-in_ok-x-in-Plus t c =
     λ n o tr at.
-    let cs = c.args.self.now.columns.now in
     let i = of_plus at (c.in-Plus.ensures.value no_entry) in
     let e = c.in_ok-x-in-Plus.ensures _ _ _ _ i.first i.second in
-    rw i.is (plus_goes n cs i.a i.b _ c.sums.result c.sums.ensures e.0, e.1, tt)
+    rw i.is (pair_went _ _ _ _ e.0 ∙ settled (term_rule n) c.sums.ensures, e.1, tt)
 
 pub draft_term-two_terms-requires-in-Times : goal.draft_term-two_terms-requires-in-Times
 draft_term-two_terms-requires-in-Times t c =
@@ -128,9 +116,8 @@ draft_term-returns-in_err-x-in-Times t c =
     let p = err_from_is_err_and c.from_residual-in_err-x-in-Times.result c.from_residual-in_err-x-in-Times.ensures.1 in
     rw (p.1, p.2)
     (λ n o tr at.
-    let cs = c.args.self.now.columns.now in
     let i = of_times at (c.in-Times.ensures.value no_entry) in
-    rw i.is (times_stops n cs i.a i.b _ (c.in_err-x-in-Times.ensures _ _ _ _ i.first i.second)))
+    rw i.is (pair_stopped _ _ _ _ (c.in_err-x-in-Times.ensures _ _ _ _ i.first i.second)))
 
 pub draft_term-products-requires : goal.draft_term-products-requires
 draft_term-products-requires t c =
@@ -141,10 +128,9 @@ draft_term-products-requires t c =
 pub draft_term-returns-in_ok-x-in-Times : goal.draft_term-returns-in_ok-x-in-Times
 draft_term-returns-in_ok-x-in-Times t c =
     λ n o tr at.
-    let cs = c.args.self.now.columns.now in
     let i = of_times at (c.in-Times.ensures.value no_entry) in
     let e = c.in_ok-x-in-Times.ensures _ _ _ _ i.first i.second in
-    rw i.is (times_goes n cs i.a i.b _ c.products.result c.products.ensures e.0, e.1, tt)
+    rw i.is (pair_went _ _ _ _ e.0 ∙ settled (term_rule n) c.products.ensures, e.1, tt)
 
 pub draft_term-condition-requires : goal.draft_term-condition-requires
 draft_term-condition-requires t c =
@@ -156,9 +142,8 @@ draft_term-returns-in_err-condition-in-Pick t c =
     let p = err_from_is_err_and c.from_residual-in_err-condition-in-Pick.result c.from_residual-in_err-condition-in-Pick.ensures.1 in
     rw (p.1, p.2)
     (λ n o tr at.
-    let cs = c.args.self.now.columns.now in
     let i = of_pick at (c.in-Pick.ensures.value no_entry) in
-    rw i.is (pick_stops n cs i.b i.c i.a _ (c.in_err-condition-in-Pick.ensures _ _ _ i.first)))
+    rw (i.is, c.in_err-condition-in-Pick.ensures _ _ _ i.first))
 
 pub draft_term-two_terms-requires-in-Pick : goal.draft_term-two_terms-requires-in-Pick
 draft_term-two_terms-requires-in-Pick t c =
@@ -170,22 +155,17 @@ draft_term-returns-in_err-x-in-Pick t c =
     let p = err_from_is_err_and c.from_residual-in_err-x-in-Pick.result c.from_residual-in_err-x-in-Pick.ensures.1 in
     rw (p.1, p.2)
     (λ n o tr at.
-    let cs = c.args.self.now.columns.now in
     let i = of_pick at (c.in-Pick.ensures.value no_entry) in
-    rw i.is (pick_stops_later n cs i.b i.c i.a _ _ (c.in_ok-condition-in-Pick.ensures _ _ _ i.first).0 (c.in_err-x-in-Pick.ensures _ _ _ _ i.second i.third)))
+    rw (i.is, (c.in_ok-condition-in-Pick.ensures _ _ _ i.first).0) (pair_stopped _ _ _ _ (c.in_err-x-in-Pick.ensures _ _ _ _ i.second i.third)))
 
 pub draft_term-returns-in_ok-x-in-Pick : goal.draft_term-returns-in_ok-x-in-Pick
 draft_term-returns-in_ok-x-in-Pick t c =
     λ n o tr at.
-    let cs = c.args.self.now.columns.now in
     let i = of_pick at (c.in-Pick.ensures.value no_entry) in
     let d = c.in_ok-condition-in-Pick.ensures _ _ _ i.first in
     let e = c.in_ok-x-in-Pick.ensures _ _ _ _ i.second i.third in
-    let ds = condition_notes (n + 1) cs i.a in
-    let es = term_notes (past (n + 1) i.a) cs i.b ++ term_notes (past (past (n + 1) i.a) i.b) cs i.c in
-    let here : o + 1 + size i.a ≡ o + 1 + length ds = ap (λ (k : ℕ). o + 1 + k) (sym (condition_count i.a (n + 1) cs)) in
-    rw i.is
-    (pick_goes n cs i.b i.c i.a _ _ c.hull.result c.hull.ensures d.0 e.0, e.1 ∙ ap (λ (l : List Note). noted_at l (o + 1 + size i.a) es) d.1 ∙ noted_more c.args.notes.now (o + 1) (o + 1 + size i.a) ds es here (omega (arith, i.first.room)), tt)
+    rw (i.is, d.0)
+    (pair_went _ _ _ _ e.0 ∙ settled (term_rule n) c.hull.ensures, noted_both c.args.notes.now (o + 1) _ _ _ _ _ d.1 e.1 (condition_count i.a _ _) (omega (arith, i.first.room)), tt)
 
 pub condition-entry_at-entry-requires : goal.condition-entry_at-entry-requires
 condition-entry_at-entry-requires t c = within c.requires.3
@@ -220,17 +200,15 @@ condition_parts-returns-in_err-two_terms-in-Less t c =
     let p = err_from_is_err_and c.from_residual.result c.from_residual.ensures.1 in
     rw (p.1, p.2)
     (λ n o tr at.
-    let cs = c.args.self.now.columns.now in
     let i = of_less at (c.in-Less.ensures.value no_entry) in
-    rw i.is (less_stops n cs i.a i.b _ (c.in_err-two_terms-in-Less.ensures _ _ _ _ i.first i.second)))
+    rw i.is (pair_stopped _ _ _ _ (c.in_err-two_terms-in-Less.ensures _ _ _ _ i.first i.second)))
 
 pub condition_parts-returns-in_ok-two_terms-in-Less : goal.condition_parts-returns-in_ok-two_terms-in-Less
 condition_parts-returns-in_ok-two_terms-in-Less t c =
     λ n o tr at.
-    let cs = c.args.self.now.columns.now in
     let i = of_less at (c.in-Less.ensures.value no_entry) in
     let e = c.in_ok-two_terms-in-Less.ensures _ _ _ _ i.first i.second in
-    rw i.is (less_goes n cs i.a i.b _ e.0, e.1, tt)
+    rw i.is (pair_went _ _ _ _ e.0, e.1, tt)
 
 pub condition_parts-two_terms-requires-in-Equal : goal.condition_parts-two_terms-requires-in-Equal
 condition_parts-two_terms-requires-in-Equal t c =
@@ -242,17 +220,15 @@ condition_parts-returns-in_err-two_terms-in-Equal t c =
     let p = err_from_is_err_and c.from_residual-in_err-two_terms-in-Equal.result c.from_residual-in_err-two_terms-in-Equal.ensures.1 in
     rw (p.1, p.2)
     (λ n o tr at.
-    let cs = c.args.self.now.columns.now in
     let i = of_equal at (c.in-Equal.ensures.value no_entry) in
-    rw i.is (less_stops n cs i.a i.b _ (c.in_err-two_terms-in-Equal.ensures _ _ _ _ i.first i.second)))
+    rw i.is (pair_stopped _ _ _ _ (c.in_err-two_terms-in-Equal.ensures _ _ _ _ i.first i.second)))
 
 pub condition_parts-returns-in_ok-two_terms-in-Equal : goal.condition_parts-returns-in_ok-two_terms-in-Equal
 condition_parts-returns-in_ok-two_terms-in-Equal t c =
     λ n o tr at.
-    let cs = c.args.self.now.columns.now in
     let i = of_equal at (c.in-Equal.ensures.value no_entry) in
     let e = c.in_ok-two_terms-in-Equal.ensures _ _ _ _ i.first i.second in
-    rw i.is (less_goes n cs i.a i.b _ e.0, e.1, tt)
+    rw i.is (pair_went _ _ _ _ e.0, e.1, tt)
 
 pub condition_parts-condition-requires : goal.condition_parts-condition-requires
 condition_parts-condition-requires t c =
@@ -264,9 +240,8 @@ condition_parts-returns-in_err-condition-in-Either t c =
     let p = err_from_is_err_and c.from_residual-in_err-condition-in-Either.result c.from_residual-in_err-condition-in-Either.ensures.1 in
     rw (p.1, p.2)
     (λ n o tr at.
-    let cs = c.args.self.now.columns.now in
     let i = of_either at (c.in-Either.ensures.value no_entry) in
-    rw i.is (either_stops n cs i.a i.b _ (c.in_err-condition-in-Either.ensures _ _ _ i.first)))
+    rw (i.is, c.in_err-condition-in-Either.ensures _ _ _ i.first))
 
 pub condition_parts-condition-requires-in-Either : goal.condition_parts-condition-requires-in-Either
 condition_parts-condition-requires-in-Either t c =
@@ -276,14 +251,10 @@ condition_parts-condition-requires-in-Either t c =
 pub condition_parts-returns-in_ok-condition-in-Either : goal.condition_parts-returns-in_ok-condition-in-Either
 condition_parts-returns-in_ok-condition-in-Either t c =
     λ n o tr at.
-    let cs = c.args.self.now.columns.now in
     let i = of_either at (c.in-Either.ensures.value no_entry) in
     let d = c.in_ok-condition-in-Either.ensures _ _ _ i.first in
-    let xs = condition_notes (n + 1) cs i.a in
-    let ys = condition_notes (past (n + 1) i.a) cs i.b in
-    let here : o + 1 + size i.a ≡ o + 1 + length xs = ap (λ (k : ℕ). o + 1 + k) (sym (condition_count i.a (n + 1) cs)) in
-    rw i.is
-    (behind c.args.notes.now (o + 1) (o + 1 + size i.a) xs ys _ d.1 here (omega (arith, i.first.room)) _ (either_first n cs i.a i.b _ d.0) c.condition-in-Either.result _ (c.condition-in-Either.ensures _ _ _ i.second))
+    rw (i.is, d.0)
+    (behind c.args.notes.now (o + 1) _ _ _ _ d.1 (condition_count i.a _ _) (omega (arith, i.first.room)) _ (only _) c.condition-in-Either.result _ (c.condition-in-Either.ensures _ _ _ i.second))
 
 pub condition_parts-condition-requires-in-Not : goal.condition_parts-condition-requires-in-Not
 condition_parts-condition-requires-in-Not t c =
