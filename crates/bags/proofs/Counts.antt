@@ -1,5 +1,5 @@
 -- How often a row stands in a bag, and sums over the rows by their counts.
-use Rattle.std.proofs.Common.{◌≡◌, ℕ, ◌+◌, ◌*◌, ◌≤◌, min, Bool, true, false, cond, not, List, [], ◌∷◌, ◌++◌, map, length, sum_by, filter, sym, refl, ap, ◌∙◌, mul-le-mul_right, add-mul, one-mul, zero-mul, arith}
+use Rattle.std.proofs.Common.{◌≡◌, ℕ, ◌+◌, ◌*◌, ◌≤◌, min, Bool, true, false, cond, not, List, [], ◌∷◌, ◌++◌, map, length, sum_by, filter, sym, refl, ap, ◌∙◌, mul-le-mul_right, mul-one, add-mul, one-mul, zero-mul, arith}
 use Rattle.std.proofs.lemmas.List.Sorted.{sum_by-IsPermutation}
 use Rattle.std.proofs.lemmas.List.Sums.{sum_by-append, sum_by-cons, sum_by-le-sum_by}
 use Rattle.std.proofs.lemmas.Bool.{both_ways}
@@ -133,6 +133,10 @@ weighted g u (x ∷ l) once =
         one : (b : Bool) → same z x ≡ b → cond b 1 0 * g z ≡ cond b (g x) 0
         one true e = one-mul (g z) ∙ ap g (same_is z x e)
         one false e = zero-mul (g z)
+
+-- the counts of a bag's rows make up its length, where each of them stands once
+pub counted : (u l : List Row) → Once u l → sum_by (λ z. times z l) u ≡ length l
+counted u l once = (λ i. sum_by (λ z. sym (mul-one (times z l)) i) u) ∙ weighted (λ _. 1) u l once ∙ sum_by_one l
 
 -- a bag that has more of every row has the greater sum
 pub sum_grows : (g : Row → ℕ) (a b : List Row) → ((z : Row) → times z a ≤ times z b) → sum_by g a ≤ sum_by g b

@@ -1,10 +1,8 @@
 -- The laws of the distance: first of what is missing, in one direction, and then of both directions together.
-use Rattle.std.proofs.Common.{◌≡◌, ℕ, suc, ◌+◌, ◌-◌, ◌*◌, ◌≤◌, Bool, true, false, cond, List, [], ◌∷◌, ◌++◌, map, length, ℤ, pos, negsuc, ◌-ℤ◌, nat_abs, sum_by, filter, sym, refl, ap, subst, mul_comm, mul-add, arith, length-append}
+use Rattle.std.proofs.Common.{◌≡◌, ℕ, suc, ◌+◌, ◌-◌, ◌*◌, ◌≤◌, Bool, true, false, cond, List, [], ◌∷◌, ◌++◌, map, length, get_or, ℤ, pos, negsuc, ◌-ℤ◌, nat_abs, sum_by, filter, sym, refl, ap, subst, mul_comm, mul-add, arith, length-append}
 use lib.ListN.{length-map}
 use Rattle.std.proofs.lemmas.Int.{ints}
-use Rattle.std.proofs.lemmas.List.Sums.{sum_by-cons}
-use Rattle.std.proofs.ByRecursion.{sum_by_le}
-use Rattle.std.specs.List.{AllByRecursion}
+use Rattle.std.proofs.lemmas.List.Sums.{sum_by-cons, sum_by-le}
 use Rattle.std.specs.List.Sorted.{IsPermutation}
 use Rattle.sources.specs.Source.{Row}
 use Rattle.bags.specs.Distance.{distance, missing, same, times}
@@ -56,11 +54,7 @@ missing_most xs ys = missing_least xs xs ys (λ z. omega arith)
 
 -- a sum grows by no more than the greatest value for each row that is missing
 missing_sum : (g : Row → ℕ) (m : ℕ) → ((r : Row) → g r ≤ m) → (xs ys : List Row) → sum_by g xs ≤ sum_by g ys + m * missing xs ys
-missing_sum g m h xs ys = omega (arith, sum_lost g xs ys, sum_by_le g m (lost xs ys) (each (lost xs ys)), ap (λ n. n * m) (missing_is xs ys), mul_comm m (missing xs ys))
-  where
-    each : (l : List Row) → AllByRecursion (λ r. g r ≤ m) l
-    each [] = tt
-    each (r ∷ l) = (h r, each l)
+missing_sum g m h xs ys = omega (arith, sum_lost g xs ys, sum_by-le g m (lost xs ys) (λ i d _. h (get_or (lost xs ys) i d)), ap (λ n. n * m) (missing_is xs ys), mul_comm m (missing xs ys))
 
 pub missing_steady : Steady missing
 missing_steady = record { itself = missing_itself; triangle = missing_triangle; reordered = missing_reordered; kept = missing_kept; mapped = missing_mapped; joined = missing_joined }

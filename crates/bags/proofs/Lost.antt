@@ -1,10 +1,10 @@
 -- The rows that one bag has more than another: as many as are missing, and no bag that makes up for what is missing has fewer.
-use Rattle.std.proofs.Common.{◌≡◌, ℕ, ◌+◌, ◌-◌, ◌≤◌, Bool, true, false, cond, leb, List, [], ◌∷◌, ◌++◌, length, sum_by, sym, refl, ◌∙◌, subst, mul-one, arith}
+use Rattle.std.proofs.Common.{◌≡◌, ℕ, ◌+◌, ◌-◌, ◌≤◌, Bool, true, false, cond, leb, List, [], ◌∷◌, ◌++◌, length, sum_by, sym, refl, ◌∙◌, subst, arith}
 use Rattle.std.proofs.lemmas.List.Sums.{sum_by-append}
 use Rattle.std.proofs.lemmas.Bool.{leb-false, leb-true}
 use Rattle.sources.specs.Source.{Row}
 use Rattle.bags.specs.Distance.{different, distance, missing, same, times}
-use Rattle.bags.proofs.Counts.{Once, same_is, sum_grows, sum_by_one, sum_by_plus, times_append, times_different, times_none, times_other, times_same, weighted}
+use Rattle.bags.proofs.Counts.{Once, counted, same_is, sum_grows, sum_by_one, sum_by_plus, times_append, times_different, times_none, times_other, times_same}
 
 -- of each row those that xs has more than ys
 unfoldable pub lost : List Row → List Row → List Row
@@ -32,9 +32,7 @@ times_lost z (x ∷ xs) ys = go (leb (times x ys) (times x xs)) (same z x) refl 
 -- the sum over the different rows is the same wherever each row stands once
 pub missing_over : (u xs ys : List Row) → Once u xs → sum_by (λ z. times z xs - times z ys) u ≡ length (lost xs ys)
 missing_over u xs ys once =
-    (λ i. sum_by (λ z. (sym (times_lost z xs ys) ∙ sym (mul-one (times z (lost xs ys)))) i) u)
-    ∙ weighted (λ _. 1) u (lost xs ys) (λ z h. once z (omega (arith, times_lost z xs ys)))
-    ∙ sum_by_one (lost xs ys)
+    (λ i. sum_by (λ z. sym (times_lost z xs ys) i) u) ∙ counted u (lost xs ys) (λ z h. once z (omega (arith, times_lost z xs ys)))
 
 once_each : (xs ys : List Row) → Once (different (xs ++ ys)) (xs ++ ys)
 once_each xs ys z h = times_different z (xs ++ ys) ∙ omega (arith, h)

@@ -1,18 +1,14 @@
 -- What two bags share: each bag is what it shares and what the other lacks of it.
-use Rattle.std.proofs.Common.{◌≡◌, ℕ, ◌+◌, ◌-◌, ◌≤◌, min, Bool, true, false, List, [], ◌∷◌, ◌++◌, map, length, sum_by, sym, refl, ap, ◌∙◌, mul-one, arith}
+use Rattle.std.proofs.Common.{◌≡◌, ℕ, ◌+◌, ◌-◌, ◌≤◌, min, Bool, true, false, List, [], ◌∷◌, ◌++◌, map, length, sum_by, sym, refl, ap, ◌∙◌, arith}
 use lib.ListN.{length-map}
 use Rattle.std.proofs.lemmas.List.Sorted.{length_permutation}
 use Rattle.std.specs.List.{AllByRecursion}
 use Rattle.std.specs.List.Sorted.{IsPermutation}
 use Rattle.sources.specs.Source.{Row}
 use Rattle.bags.specs.Distance.{Pairs, different, missing, same, shared, times}
-use Rattle.bags.proofs.Counts.{Once, same_is, sum_by_one, sum_by_plus, times_cons, times_other, weighted}
+use Rattle.bags.proofs.Counts.{counted, same_is, sum_by_plus, times_cons, times_other}
 use Rattle.bags.proofs.Laws.{missing_alike, missing_steady}
 use Rattle.bags.proofs.Lost.{distance_is, first_once, missing_is, missing_over, second_once}
-
--- the counts of a bag's rows make up its length, where each of them stands once
-counted : (u l : List Row) → Once u l → sum_by (λ z. times z l) u ≡ length l
-counted u l once = (λ i. sum_by (λ z. sym (mul-one (times z l)) i) u) ∙ weighted (λ _. 1) u l once ∙ sum_by_one l
 
 -- what one bag has more of each row, and what both have of it, is what the one has
 parted : (f g h : Row → ℕ) (u : List Row) → ((z : Row) → f z + g z ≡ h z) → sum_by f u + sum_by g u ≡ sum_by h u

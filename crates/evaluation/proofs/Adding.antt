@@ -9,6 +9,8 @@ use Rattle.forms.specs.Padding.{Blind, padded}
 use Rattle.forms.specs.Table.{Part, TermTree, part_at}
 use Rattle.forms.specs.Table.Part.{bad, a_term, a_condition, a_bag, a_number}
 use Rattle.forms.specs.declared.form.Entry.{Entry}
+use Rattle.sources.specs.Source.{Lawful, Meaning}
+use Rattle.sources.specs.Widths.{row_wide}
 use Rattle.std.proofs.ByRecursion.{All-get_or}
 use Rattle.std.proofs.lemmas.List.{take_more}
 use Rattle.std.proofs.lemmas.Int.{ints, to_z-of_z}
@@ -86,29 +88,29 @@ addend_padded es (Clipped lo hi p) way rs i h some places calm (t, is, k) =
     let longer = unseen.calm (way ++ put ∷ []) r (within_push (length r) way (pos 0) t places (0, refl, some)) (calm_push way put r calm last) in
     calm_from (CalmStep put) (CalmTermAt es p) (λ x c. record { tree = t; is = is; calm = c.1 }) (carried way (padded r)) (calm_split way put (padded r) longer).1
 
--- row i of the rows, which are added to what the sum was
-module _ (es : List Entry) (a : Addend) (steps : List ℕ) (width : ℕ) (rows : List Row) (start : ℤ) (way : List Step) (h : AddsRows es a steps width rows start way) (some : 1 ≤ width) (i : ℕ) (there : i < length rows) (wide : length (get_or rows i []) ≡ width) (row : Row) (copied : row ≡ padded (get_or rows i [])) (sum : ℤ) (so_far : sum ≡ start +ℤ total (from_leaf es a way) (take i rows)) where
-  pub row_added : sum +ℤ from_leaf es a way row ≡ start +ℤ total (from_leaf es a way) (take (i + 1) rows)
+-- row i of a source, which is added to what the sum was
+module _ {es : List Entry} {a : Addend} {steps : List ℕ} {m : Meaning} {start : ℤ} {way : List Step} (law : Lawful m) (h : AddsRows es a steps m.width m.rows start way) {i : ℕ} (there : i < length m.rows) {row : Row} (copied : row ≡ padded (get_or m.rows i [])) {sum : ℤ} (so_far : sum ≡ start +ℤ total (from_leaf es a way) (take i m.rows)) where
+  places : WayWithin (length (get_or m.rows i [])) way
+  places = subst (λ w. WayWithin w way) (sym (row_wide m law i there)) h.places
+
+  pub row_added : sum +ℤ from_leaf es a way row ≡ start +ℤ total (from_leaf es a way) (take (i + 1) m.rows)
   row_added =
       let f = from_leaf es a way in
-      let r = get_or rows i [] in
-      let places : WayWithin (length r) way = subst (λ w. WayWithin w way) (sym wide) h.places in
-      let same : f row ≡ f r = ap f copied ∙ unseen.arrives (added es a) (blind es a) way r places in
-      let more = total_more f rows i there in
+      let same : f row ≡ f (get_or m.rows i []) = ap f copied ∙ unseen.arrives (added es a) (blind es a) way (get_or m.rows i []) places in
+      let more = total_more f m.rows i there in
       omega (arith, ints)
 
   pub row_adds : AddsRow es a steps row sum way
   row_adds =
-      let r = get_or rows i [] in
-      let places : WayWithin (length r) way = subst (λ w. WayWithin w way) (sym wide) h.places in
-      let calm : CalmWay way r = All-get_or (CalmWay way) rows i [] there h.calm in
+      let r = get_or m.rows i [] in
+      let calm : CalmWay way r = All-get_or (CalmWay way) m.rows i [] there h.calm in
       record {
         leads = h.leads;
         calm = subst (CalmWay way) (sym copied) (unseen.calm way r places calm);
-        addend = subst (λ (x : Row). CalmFrom (CalmAddend es a) (carried way x)) (sym copied) (addend_padded es a way rows i there (omega arith) places calm h.addends);
+        addend = subst (λ (x : Row). CalmFrom (CalmAddend es a) (carried way x)) (sym copied) (addend_padded es a way m.rows i there (omega (arith, row_wide m law i there, law.some_width)) places calm h.addends);
         bounded = subst (Within number_bound) (sym row_added) (h.bounded (i + 1) (omega arith));
       }
 
 -- the same of the sum by its bits
-pub adds_bits : (es : List Entry) (a : Addend) (steps : List ℕ) (width : ℕ) (rows : List Row) (z : ℤ) (way : List Step) → SFits w64 z → AddsRows es a steps width rows z way → AddsRows es a steps width rows (to_z w64 (of_z w64 z)) way
-adds_bits es a steps width rows z way f h = subst (λ x. AddsRows es a steps width rows x way) (sym (to_z-of_z w64 z f)) h
+pub adds_bits : {es : List Entry} {a : Addend} {steps : List ℕ} {width : ℕ} {rows : List Row} {z : ℤ} {way : List Step} → SFits w64 z → AddsRows es a steps width rows z way → AddsRows es a steps width rows (to_z w64 (of_z w64 z)) way
+adds_bits {es} {a} {steps} {width} {rows} {z} {way} f h = subst (λ x. AddsRows es a steps width rows x way) (sym (to_z-of_z w64 z f)) h

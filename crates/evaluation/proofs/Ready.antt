@@ -48,7 +48,7 @@ sums_typed c u (let_in a b) n rs x e h =
     let (z, q, end) = after_ok (number_typed (past (n + 1) a) c (y.range ∷ rs) b) (λ z. settled n true (named y z)) x rest in
     ⊎_elim (sums_typed c u a (n + 1) rs y p) (sums_typed c u b (past (n + 1) a) (y.range ∷ rs) z q) h
 
-module _ (es : List Entry) (p : Plant) (t : NumberTree) (h : Evaluable es p t) (kept : Kept h.catalogue p) where
+module _ {es : List Entry} {p : Plant} {t : NumberTree} (h : Evaluable es p t) (kept : Kept h.catalogue p) where
   pub all_typed : SumsTyped es p
   all_typed =
       record {
@@ -59,8 +59,8 @@ module _ (es : List Entry) (p : Plant) (t : NumberTree) (h : Evaluable es p t) (
         kept = kept;
       }
 
-  pub ready : (totals settings vars : List ℤ) → settings ≡ (inputs_of p).settings → vars ≡ [] → RightBelow es totals (sources_of p) (length es) → Ready es (length es - 1) totals settings vars (sources_of p) t
-  ready totals settings vars e none right =
+  pub ready : {totals settings vars : List ℤ} → settings ≡ (inputs_of p).settings → vars ≡ [] → RightBelow es totals (sources_of p) (length es) → Ready es (length es - 1) totals settings vars (sources_of p) t
+  ready {vars = vars} e none right =
       let calm = (kept.numbers h.line t h.type h.typed).calm in
       record {
         is = h.spells.is;

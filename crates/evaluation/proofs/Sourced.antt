@@ -20,20 +20,21 @@ one : (s : ℤ) → PlaceBelow 2 s → (of_z w64 s ≡ 0 → ⊥) → s ≡ pos 
 one s (zero, e, h) other = absurd (other (ap (of_z w64) e))
 one s (suc k, e, h) other = e ∙ ap pos (omega arith)
 
-module _ (es : List Entry) (a : Addend) (route : Route) (p : Plant) (sum : ℤ) (l : Leaf) (h : AddsLeaf es a route p sum l) where
+module _ {es : List Entry} {a : Addend} {route : Route} {p : Plant} {sum : ℤ} {l : Leaf} (h : AddsLeaf es a route p sum l) where
   -- s is what the route names
-  pub first_source : (s : ℤ) → SFits w64 s → s ≡ from_source route → of_z w64 s ≡ 0 → l.source ≡ pos 0
-  first_source s f e test = sym h.source ∙ sym e ∙ zero_bits s f test
+  pub first_source : {s : ℤ} → SFits w64 s → s ≡ from_source route → of_z w64 s ≡ 0 → l.source ≡ pos 0
+  first_source {s} f e test = sym h.source ∙ sym e ∙ zero_bits s f test
 
-  pub second_source : (s : ℤ) → s ≡ from_source route → (of_z w64 s ≡ 0 → ⊥) → l.source ≡ pos 1
-  second_source s e test = one l.source h.place (λ z. test (ap (of_z w64) (e ∙ h.source) ∙ z))
+  pub second_source : {s : ℤ} → s ≡ from_source route → (of_z w64 s ≡ 0 → ⊥) → l.source ≡ pos 1
+  second_source e test = one l.source h.place (λ z. test (ap (of_z w64) (e ∙ h.source) ∙ z))
 
-  module _ (fits : SFits w64 sum) (k : ℤ) (at_k : l.source ≡ k) where
+  -- the leaf is of source k
+  module _ {k : ℤ} (at_k : l.source ≡ k) (fits : SFits w64 sum) where
     pub leaf_rows : AddsRows es a (steps_of route) (at (widths_of p) k 0) (at (sources_of p) k []) (to_z w64 (of_z w64 sum)) l.way
-    leaf_rows = adds_bits es a (steps_of route) (at (widths_of p) k 0) (at (sources_of p) k []) sum l.way fits (subst (λ z. AddsRows es a (steps_of route) (at (widths_of p) z 0) (at (sources_of p) z []) sum l.way) at_k h.rows)
+    leaf_rows = adds_bits fits (subst (λ z. AddsRows es a (steps_of route) (at (widths_of p) z 0) (at (sources_of p) z []) sum l.way) at_k h.rows)
 
-    pub leaf_sum : (r : ℤ) → SFits w64 r → r ≡ to_z w64 (of_z w64 sum) +ℤ total (from_leaf es a l.way) (at (sources_of p) k []) → to_z w64 (of_z w64 r) ≡ sum +ℤ leaf_total (added es a) (sources_of p) l
-    leaf_sum r f e =
+    pub leaf_sum : {r : ℤ} → SFits w64 r → r ≡ to_z w64 (of_z w64 sum) +ℤ total (from_leaf es a l.way) (at (sources_of p) k []) → to_z w64 (of_z w64 r) ≡ sum +ℤ leaf_total (added es a) (sources_of p) l
+    leaf_sum {r} f e =
         to_z-of_z w64 r f
         ∙ e
         ∙ ap (λ z. z +ℤ total (from_leaf es a l.way) (at (sources_of p) k [])) (to_z-of_z w64 sum fits)

@@ -3,6 +3,7 @@ use Rattle.std.proofs.Common.{◌≡◌, ℕ, ◌+◌, ◌<◌, max, Bool, true,
 use lib.Signed.{le_z}
 use Rattle.forms.proofs.Parts.{bags, numbers, one, terms, two}
 use Rattle.forms.specs.Calm.{inputs}
+use Rattle.forms.specs.Limits.{room}
 use Rattle.forms.specs.Lined.{past}
 use Rattle.forms.specs.Table.{BagTree, NumberTree, Part, Stands, TermTree, bag_in, build, condition_in, number_in, of_one, of_three, of_two, part_at, parts, term_in}
 use Rattle.forms.specs.Table.Part.{bad, a_term, a_condition, a_bag, a_number}
@@ -17,7 +18,7 @@ use Rattle.rules.specs.Ranges.{counts, totals}
 use Rattle.rules.specs.Sound.{Plant}
 use Rattle.rules.specs.Typing.{BagType, NumberType, after, bag_typed, number_typed, settled, term_typed, unbound}
 use Rattle.sources.specs.declared.shapes.Range.{Range}
-use Rattle.std.proofs.lemmas.List.{get_or-set_other, get_or-set_same}
+use Rattle.std.proofs.lemmas.List.{get_or-set_other, get_or-set_same, length-set}
 use Rattle.std.proofs.lemmas.Bool.{both_ways, cases_eq}
 use Rattle.trees.specs.Meaning.{Row, clipped, number, rows, total}
 use Rattle.trees.specs.Tree.Tree.{keep, put, pool, plus, times, pick, less, equal, either, not, count, sum, add, sub, least, most, scale, clip, let_in}
@@ -84,12 +85,6 @@ abbrev pub Tallied : List Entry → ℕ → Addend → NumberTree → Type 0
 Tallied es q One n = (b : BagTree) × (n ≡ count b) × (part_at es q ≡ a_bag b)
 Tallied es q (Clipped lo hi r) n = (b : BagTree) × (t : TermTree) × (n ≡ sum lo hi b t) × (part_at es q ≡ a_bag b) × (part_at es r ≡ a_term t)
 
-unlike : {X : Type 0} (x : X) → None ≡ Some x → ⊥
-unlike x e = let z : ◌≡◌ {A = ℕ} 0 1 = cc in omega arith
-
-some_same : {X : Type 0} (x y : X) → Some x ≡ Some y → x ≡ y
-some_same x y e = cc
-
 module _ (es : List Entry) (p : ℕ) (good : part_at es p ≡ bad → ⊥) where
   count_stands : (b : ℕ) → Stands es p (form.Count b) → (n : NumberTree) × (part_at es p ≡ a_number n) × Tallied es b One n
   count_stands b s = go (bag_in (take p (parts es)) b) refl
@@ -113,28 +108,28 @@ module _ (es : List Entry) (p : ℕ) (good : part_at es p ≡ bad → ⊥) where
           (sum lo hi i.x i.y, is ∙ ap a_number i.is, (i.x, i.y, refl, i.first.is, i.second.is))
 
   -- the form at a position adds up
-  pub tallied : (f : Form) (t : Tally) → Stands es p f → Some t ≡ tally_of f → (n : NumberTree) × (part_at es p ≡ a_number n) × Tallied es t.bag t.addend n
+  tallied : (f : Form) (t : Tally) → Stands es p f → Some t ≡ tally_of f → (n : NumberTree) × (part_at es p ≡ a_number n) × Tallied es t.bag t.addend n
   tallied f t s e = go (viewed f)
     where
       go : Viewed f → (n : NumberTree) × (part_at es p ≡ a_number n) × Tallied es t.bag t.addend n
       go (inl (b, is)) =
-          let same : ◌≡◌ {A = Tally} (record { bag = b; addend = One }) t = some_same _ t (sym (ap tally_of is) ∙ sym e) in
+          let same : ◌≡◌ {A = Tally} (record { bag = b; addend = One }) t = cc (ap tally_of is) in
           subst (λ (u : Tally). (n : NumberTree) × (part_at es p ≡ a_number n) × Tallied es u.bag u.addend n) same (count_stands b (s ∙ ap (build (take p (parts es))) is))
       go (inr (inl (lo, hi, b, r, is))) =
-          let same : ◌≡◌ {A = Tally} (record { bag = b; addend = Clipped lo hi r }) t = some_same _ t (sym (ap tally_of is) ∙ sym e) in
+          let same : ◌≡◌ {A = Tally} (record { bag = b; addend = Clipped lo hi r }) t = cc (ap tally_of is) in
           subst (λ (u : Tally). (n : NumberTree) × (part_at es p ≡ a_number n) × Tallied es u.bag u.addend n) same (sum_stands lo hi b r (s ∙ ap (build (take p (parts es))) is))
-      go (inr (inr (none, other))) = absurd (unlike t (sym none ∙ sym e))
+      go (inr (inr (none, other))) = cc (none, e)
 
 -- or neither a count nor a sum stands there
 pub not_summed : (es : List Entry) (p : ℕ) (f : Form) → Stands es p f → None ≡ tally_of f → (n : NumberTree) → part_at es p ≡ a_number n → totalled n ≡ true → ⊥
 not_summed es p f s e n is tallies = go (viewed f)
   where
     go : Viewed f → ⊥
-    go (inl (b, same)) = unlike _ (e ∙ ap tally_of same)
-    go (inr (inl (lo, hi, b, r, same))) = unlike _ (e ∙ ap tally_of same)
+    go (inl (b, same)) = cc (ap tally_of same)
+    go (inr (inl (lo, hi, b, r, same))) = cc (ap tally_of same)
     go (inr (inr (none, other))) = both_ways (totalled n) (ap summed (sym is) ∙ ap summed s ∙ other (take p (parts es))) tallies
 
-pub tally_totalled : (es : List Entry) (q : ℕ) (a : Addend) (n : NumberTree) → Tallied es q a n → totalled n ≡ true
+tally_totalled : (es : List Entry) (q : ℕ) (a : Addend) (n : NumberTree) → Tallied es q a n → totalled n ≡ true
 tally_totalled es q One n (b, e, is) = ap totalled e
 tally_totalled es q (Clipped lo hi p) n (b, t, e, is, term) = ap totalled e
 
@@ -144,15 +139,8 @@ tally_value es q One n (b, e, is) sources r h = h b is ∙ counted (rows b sourc
 tally_value es q (Clipped lo hi p) n (b, t, e, is, term) sources r h =
     h b is ∙ ap (λ z. total (λ x. clipped lo hi (term_value z x)) (rows b sources)) term ∙ sym (ap (λ z. number z (inputs sources []) []) e)
 
-same_number : (q : Part) (n m : NumberTree) → q ≡ a_number n → q ≡ a_number m → n ≡ m
-same_number q n m e h = cc
-
--- and of every number that stands at the position
-pub tally_here : (es : List Entry) (p q : ℕ) (a : Addend) (n : NumberTree) → part_at es p ≡ a_number n → Tallied es q a n → (sources : List (List Row)) (r : ℤ) → ((b : BagTree) → part_at es q ≡ a_bag b → r ≡ total (added es a) (rows b sources)) → (m : NumberTree) → part_at es p ≡ a_number m → r ≡ number m (inputs sources []) []
-tally_here es p q a n is t sources r h m at = tally_value es q a n t sources r h ∙ ap (λ z. number z (inputs sources []) []) (same_number (part_at es p) n m is at)
-
 -- a typed count or sum has a typed bag, and a typed addend
-pub tally_typed : (es : List Entry) (p : Plant) (h : SumsTyped es p) (q : ℕ) (a : Addend) (n : NumberTree) → Tallied es q a n → (m : ℕ) (rs : List Range) (x : NumberType) → number_typed m h.catalogue rs n ≡ Ok x → AddsBag es q a p
+tally_typed : (es : List Entry) (p : Plant) (h : SumsTyped es p) (q : ℕ) (a : Addend) (n : NumberTree) → Tallied es q a n → (m : ℕ) (rs : List Range) (x : NumberType) → number_typed m h.catalogue rs n ≡ Ok x → AddsBag es q a p
 tally_typed es p h q One n (b, e, is) m rs x typed =
     let c = h.catalogue in
     let f = λ (y : BagType). settled m true (unbound rs (counts y.limit) y.inputs) in
@@ -186,16 +174,40 @@ tally_typed es p h q (Clipped lo hi k) n (b, t, e, is, term) m rs x typed =
       kept = h.kept;
     }
 
--- the totals are right at one position more
-module _ (es : List Entry) (ts : List ℤ) (sources : List (List Row)) (p : ℕ) (right : RightBelow es ts sources p) where
-  pub right_put : p < length ts → (z : ℤ) → ((n : NumberTree) → part_at es p ≡ a_number n → totalled n ≡ true → z ≡ number n (inputs sources []) []) → RightBelow es (set ts p z) sources (p + 1)
-  right_put room z here q n below is k = elim (cases_eq q p) [
-    | inl e ↦ ap (λ i. get_or (set ts p z) i (pos 0)) e ∙ get_or-set_same ts p z (pos 0) room ∙ here n (sym (ap (part_at es) e) ∙ is) k
-    | inr other ↦ get_or-set_other ts p q z (pos 0) other ∙ right q n (omega arith) is k
-  ]
+-- a form of a typed table that adds up
+module _ {es : List Entry} {p : Plant} (h : SumsTyped es p) {i : ℕ} (there : i < length es) (f : Form) (stands : Stands es i f) {t : Tally} (adds : Some t ≡ tally_of f) where
+  spelled : (n : NumberTree) × (part_at es i ≡ a_number n) × Tallied es t.bag t.addend n
+  spelled = tallied es i (h.whole i there) f t stands adds
 
-  pub right_skip : ((n : NumberTree) → part_at es p ≡ a_number n → totalled n ≡ true → ⊥) → RightBelow es ts sources (p + 1)
-  right_skip none q n below is k = elim (cases_eq q p) [
-    | inl e ↦ absurd (none n (sym (ap (part_at es) e) ∙ is) k)
-    | inr other ↦ right q n (omega arith) is k
-  ]
+  pub tally_adds : AddsBag es t.bag t.addend p
+  tally_adds =
+      let (n, is, k) = spelled in
+      let (m, rs, x, e) = h.typed i n is (tally_totalled es t.bag t.addend n k) in
+      tally_typed es p h t.bag t.addend n k m rs x e
+
+  -- what is added for its bag is the value of every number that stands there
+  pub tally_right : {sources : List (List Row)} {r : ℤ} → ((b : BagTree) → part_at es t.bag ≡ a_bag b → r ≡ total (added es t.addend) (rows b sources)) → (m : NumberTree) → part_at es i ≡ a_number m → r ≡ number m (inputs sources []) []
+  tally_right {sources} {r} all m at =
+      let (n, is, k) = spelled in
+      let same : n ≡ m = cc (is, at) in
+      tally_value es t.bag t.addend n k sources r all ∙ ap (λ z. number z (inputs sources []) []) same
+
+-- the totals are right at one position more
+module _ (es : List Entry) (ts : List ℤ) (sources : List (List Row)) (p : ℕ) (right : (length ts ≡ room) × RightBelow es ts sources p) where
+  pub right_put : p < room → {z : ℤ} → ((n : NumberTree) → part_at es p ≡ a_number n → totalled n ≡ true → z ≡ number n (inputs sources []) []) → (length (set ts p z) ≡ room) × RightBelow es (set ts p z) sources (p + 1)
+  right_put small {z} here = (
+    length-set ts p z ∙ right.0,
+    λ q n below is k. elim (cases_eq q p) [
+      | inl e ↦ ap (λ i. get_or (set ts p z) i (pos 0)) e ∙ get_or-set_same ts p z (pos 0) (omega (arith, right.0)) ∙ here n (sym (ap (part_at es) e) ∙ is) k
+      | inr other ↦ get_or-set_other ts p q z (pos 0) other ∙ right.1 q n (omega arith) is k
+    ],
+  )
+
+  pub right_skip : ((n : NumberTree) → part_at es p ≡ a_number n → totalled n ≡ true → ⊥) → (length ts ≡ room) × RightBelow es ts sources (p + 1)
+  right_skip none = (
+    right.0,
+    λ q n below is k. elim (cases_eq q p) [
+      | inl e ↦ absurd (none n (sym (ap (part_at es) e) ∙ is) k)
+      | inr other ↦ right.1 q n (omega arith) is k
+    ],
+  )

@@ -5,7 +5,7 @@ use Rattle.forms.specs.Calm.{CalmTerm}
 use Rattle.forms.specs.Leaves.{CalmBag, CalmFrom, CalmStep, CalmWay, Follows, Leaf, Step, WayWithin, carried, leaf_total, leaves, leaves_total, no_leaf, through}
 use Rattle.forms.specs.Leaves.Step.{keeps, puts}
 use Rattle.forms.specs.Lined.{past}
-use Rattle.forms.specs.Table.{BagTree, Part, TermTree}
+use Rattle.forms.specs.Table.{BagTree, Part, TermTree, part_at}
 use Rattle.forms.specs.Table.Part.{bad, a_term, a_condition, a_bag, a_number}
 use Rattle.forms.specs.declared.form.Entry.{Entry}
 use Rattle.forms.specs.declared.route.Route.{Route}
@@ -93,10 +93,21 @@ leaves_push : (g : Row → ℤ) (sources : List (List Row)) (ls : List Leaf) (l 
 leaves_push g sources [] l = omega (arith, ints)
 leaves_push g sources (k ∷ ls) l = let rest = leaves_push g sources ls l in omega (arith, ints)
 
+-- the leaves of what stands at a position
+abbrev pub leaves_of : Part → List Leaf
+leaves_of bad = []
+leaves_of (a_term t) = []
+leaves_of (a_condition c) = []
+leaves_of (a_bag b) = leaves b
+leaves_of (a_number n) = []
+
 -- leaf n, by its route, is added to what came before
-module _ (es : List Entry) (bag : ℕ) (a : Addend) (p : Plant) (h : AddsBag es bag a p) (n : ℕ) (there : n < length (leaves h.tree)) (sum : ℤ) (so_far : sum ≡ leaves_total (added es a) (sources_of p) (take n (leaves h.tree))) where
-  pub leaf_adds : (route : Route) → Follows es route (get_or (leaves h.tree) n no_leaf) → AddsLeaf es a route p sum (get_or (leaves h.tree) n no_leaf)
-  leaf_adds route follows =
+module _ {es : List Entry} {bag : ℕ} {a : Addend} {p : Plant} (h : AddsBag es bag a p) {n : ℕ} (there : n < length (leaves h.tree)) {sum : ℤ} (so_far : sum ≡ leaves_total (added es a) (sources_of p) (take n (leaves_of (part_at es bag)))) where
+  before : sum ≡ leaves_total (added es a) (sources_of p) (take n (leaves h.tree))
+  before = so_far ∙ ap (λ q. leaves_total (added es a) (sources_of p) (take n (leaves_of q))) h.is
+
+  pub leaf_adds : {route : Route} → Follows es route (get_or (leaves h.tree) n no_leaf) → AddsLeaf es a route p sum (get_or (leaves h.tree) n no_leaf)
+  leaf_adds {route} follows =
       let b = h.tree in
       let x = h.type in
       let ss = sources_of p in
@@ -113,25 +124,22 @@ module _ (es : List Entry) (bag : ℕ) (a : Addend) (p : Plant) (h : AddsBag es 
           places = subst (λ w. WayWithin w l.way) (sym same) places;
           calm = All-get_or (λ (m : Leaf). AllByRecursion (CalmWay m.way) (at ss m.source [])) (leaves b) n no_leaf there ((spread b).calm ss kept.calm);
           addends = calm_addends es a p b x h.addend kept (λ m t y e. (h.kept.terms m x.columns t y kept.few_columns e).calm) n there;
-          bounded = λ i _. rw so_far (partial_bounded es a x h.addend b ss kept.few_rows n there i);
+          bounded = λ i _. rw before (partial_bounded es a x h.addend b ss kept.few_rows n there i);
         };
       }
 
-  pub leaf_added : sum +ℤ leaf_total (added es a) (sources_of p) (get_or (leaves h.tree) n no_leaf) ≡ leaves_total (added es a) (sources_of p) (take (n + 1) (leaves h.tree))
+  pub leaf_added : sum +ℤ leaf_total (added es a) (sources_of p) (get_or (leaves h.tree) n no_leaf) ≡ leaves_total (added es a) (sources_of p) (take (n + 1) (leaves_of (part_at es bag)))
   leaf_added =
       let g = added es a in
       let ss = sources_of p in
       let ls = leaves h.tree in
-      ap (λ z. z +ℤ leaf_total g ss (get_or ls n no_leaf)) so_far ∙ sym (ap (leaves_total g ss) (take_more ls n no_leaf there) ∙ leaves_push g ss (take n ls) (get_or ls n no_leaf))
+      rw h.is (ap (λ z. z +ℤ leaf_total g ss (get_or ls n no_leaf)) before ∙ sym (ap (leaves_total g ss) (take_more ls n no_leaf there) ∙ leaves_push g ss (take n ls) (get_or ls n no_leaf)))
 
--- behind the last leaf everything is added
-pub bag_added : (es : List Entry) (a : Addend) (p : Plant) (b : BagTree) (n : ℕ) → length (leaves b) ≤ n → (sum : ℤ) → sum ≡ leaves_total (added es a) (sources_of p) (take n (leaves b)) → sum ≡ total (added es a) (rows b (sources_of p))
-bag_added es a p b n h sum so_far = so_far ∙ ap (leaves_total (added es a) (sources_of p)) (take_all n (leaves b) h) ∙ (spread b).arrive (added es a) (sources_of p)
-
--- the leaves of what stands at a position
-abbrev pub leaves_of : Part → List Leaf
-leaves_of bad = []
-leaves_of (a_term t) = []
-leaves_of (a_condition c) = []
-leaves_of (a_bag b) = leaves b
-leaves_of (a_number n) = []
+-- behind the last leaf everything is added, of whatever bag stands at the position
+pub bag_added : {es : List Entry} {bag : ℕ} {a : Addend} {p : Plant} (h : AddsBag es bag a p) {n : ℕ} → length (leaves h.tree) ≤ n → {sum : ℤ} → sum ≡ leaves_total (added es a) (sources_of p) (take n (leaves_of (part_at es bag))) → (b : BagTree) → part_at es bag ≡ a_bag b → sum ≡ total (added es a) (rows b (sources_of p))
+bag_added {es} {bag} {a} {p} h {n} end so_far b is =
+    let same : h.tree ≡ b = cc (h.is, is) in
+    so_far
+    ∙ ap (λ q. leaves_total (added es a) (sources_of p) (take n (leaves_of q))) is
+    ∙ ap (leaves_total (added es a) (sources_of p)) (take_all n (leaves b) (subst (λ x. length (leaves x) ≤ n) same end))
+    ∙ (spread b).arrive (added es a) (sources_of p)

@@ -1,23 +1,16 @@
 -- Lists of sensitivities from a place on: their bounds, sums and multiples, none, and 1 at a place.
-use Rattle.std.proofs.Common.{◌≡◌, ℕ, zero, suc, ◌+◌, ◌-◌, ◌*◌, ◌<◌, ◌≤◌, true, cond, ◌&&◌, eqb, leb, List, [], ◌∷◌, length, get_or, drop, set, replicate, sym, refl, ap, ◌∙◌, subst, ap₂, ⊎_elim, one-mul, zero-add, arith}
+use Rattle.std.proofs.Common.{◌≡◌, ℕ, zero, suc, ◌+◌, ◌-◌, ◌*◌, ◌<◌, ◌≤◌, true, cond, eqb, leb, List, [], ◌∷◌, length, get_or, drop, set, replicate, sym, refl, ap, ◌∙◌, subst, ap₂, ⊎_elim, one-mul, zero-add, arith}
 use Rattle.rules.specs.Amounts.{all_added, all_at_most, all_times}
 use Rattle.sources.specs.Indexed.{listed}
 use Rattle.std.proofs.lemmas.List.FromFn.{fill_by_all}
-use Rattle.std.proofs.lemmas.List.{at_drop_more, drop-replicate, drop-set-add, get_or-drop, get_or-replicate, get_or-set_other, get_or-set_same, length-drop, length-replicate, length-set}
-use Rattle.std.proofs.lemmas.Bool.{and_from, and_parts, cases_eq, cond-false, cond-true, eq-eqb, le-leb, leb-true, ne_eqb}
-
-at_most_at : (n : ℕ) (xs : List ℕ) (k : ℕ) → all_at_most n xs ≡ true → k < length xs → get_or xs k 0 ≤ n
-at_most_at n [] k e h = absurd (omega arith)
-at_most_at n (x ∷ xs) zero e h = leb-true x n (and_parts (leb x n) (all_at_most n xs) e).0
-at_most_at n (x ∷ xs) (suc k) e h = at_most_at n xs k (and_parts (leb x n) (all_at_most n xs) e).1 (omega arith)
+use Rattle.std.proofs.lemmas.List.{drop-replicate, drop-set-add, get_or-drop, get_or-replicate, get_or-set_other, get_or-set_same, length-drop, length-replicate, length-set}
+use Rattle.std.proofs.lemmas.List.Sums.{AllPass-from_list_all}
+use Rattle.std.proofs.lemmas.Bool.{and_from, cases_eq, cond-false, cond-true, eq-eqb, le-leb, leb-true, ne_eqb}
 
 pub at_most_from : (n : ℕ) (xs : List ℕ) (first i : ℕ) → all_at_most n (drop first xs) ≡ true → first ≤ i → i < length xs → get_or xs i 0 ≤ n
 at_most_from n xs first i e low high =
     let same : first + (i - first) ≡ i = omega arith in
-    subst (λ k. get_or xs k 0 ≤ n) same (rw get_or-drop at (at_most_at n (drop first xs) (i - first) e (rw length-drop (omega arith))))
-
-pub at_most_more : (n : ℕ) (xs : List ℕ) (i : ℕ) → i < length xs → all_at_most n (drop i xs) ≡ (leb (get_or xs i 0) n && all_at_most n (drop (i + 1) xs))
-at_most_more n xs i h = at_drop_more (all_at_most n) xs i 0 h
+    subst (λ k. get_or xs k 0 ≤ n) same (rw get_or-drop at (leb-true _ n (AllPass-from_list_all (λ x. leb x n) (drop first xs) e (i - first) 0 (rw length-drop (omega arith)))))
 
 -- what is at each place the first number and n times the second
 pub sums_from : (n : ℕ) (ws xs ys : List ℕ) → length ws ≡ length xs → length ys ≡ length xs → ((i : ℕ) → i < length xs → get_or ws i 0 ≡ get_or xs i 0 + n * get_or ys i 0) → ws ≡ all_added xs (all_times n ys)

@@ -1,6 +1,7 @@
 pub mod BagSteps
 pub mod Lengths
 pub mod Noting
+pub mod NumberParts
 pub mod NumberSteps
 pub mod Replies
 pub mod Splits

@@ -37,8 +37,8 @@ module _ (before : List Note) (o : ℕ) where
       ap (λ (l : List Note). set l i y) e ∙ ap₂ (set (noted_at before (o + 1) (drop 1 ns))) at same ∙ noted_own x (drop 1 ns) h ∙ ap (noted_at before o) (sym own)
 
   -- first xs, then ys behind them
-  pub noted_both : (i : ℕ) (xs ys between now_noted : List Note) → between ≡ noted_at before o xs → now_noted ≡ noted_at between i ys → i ≡ o + length xs → o ≤ length before → now_noted ≡ noted_at before o (xs ++ ys)
-  noted_both i xs ys between now_noted e f at h = f ∙ ap (λ (l : List Note). noted_at l i ys) e ∙ noted_more i xs ys at h
+  pub noted_both : (m : ℕ) (xs ys between now_noted : List Note) → between ≡ noted_at before o xs → now_noted ≡ noted_at between (o + m) ys → length xs ≡ m → o ≤ length before → now_noted ≡ noted_at before o (xs ++ ys)
+  noted_both m xs ys between now_noted e f long h = f ∙ ap (λ (l : List Note). noted_at l (o + m) ys) e ∙ noted_more (o + m) xs ys (omega arith) h
 
 -- Notes that all stand in the front part of the places are written there.
 pub noted_in_front : (front rest : List Note) (o : ℕ) (ns : List Note) → o + length ns ≤ length front → noted_at (front ++ rest) o ns ≡ noted_at front o ns ++ rest

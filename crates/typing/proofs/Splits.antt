@@ -5,12 +5,12 @@ use Rattle.trees.specs.declared.Kind.TheVariants.{Bag, Condition, Number, Term}
 use Rattle.trees.specs.Size.{size}
 use Rattle.trees.specs.Tree.{Tree}
 use Rattle.trees.specs.Tree.Tree.{bag, keep, put, pool, col, lit, plus, times, pick, less, equal, either, not, num, setting, var, count, sum, add, sub, least, most, scale, clip, let_in}
-use Rattle.forms.proofs.Parts.{Family, Known, bags, conditions, numbers, one, reached, terms, three, two}
+use Rattle.forms.proofs.Parts.{Family, Known, bags, build_at, conditions, numbers, one, reached, terms, three, two}
 use Rattle.forms.specs.declared.form.Entry.{Entry}
 use Rattle.forms.specs.declared.form.Form.{Form}
 use Rattle.forms.specs.Limits.{room}
-use Rattle.forms.specs.Lined.{AroundOne, AroundThree, AroundTwo, Lined, Opens, entry_at, part_position, part_positions, past}
-use Rattle.forms.specs.Table.{nth, of_one, of_three, of_two, part_at, parts}
+use Rattle.forms.specs.Lined.{AroundOne, AroundThree, AroundTwo, Lined, Opens, entry_at, no_entry, part_position, part_positions, past}
+use Rattle.forms.specs.Table.{build, nth, of_one, of_three, of_two, part_at, parts}
 use Rattle.typing.specs.Told.{FormAt, into_part}
 
 abbrev pub family : (k : Kind) → Family (Tree k)
@@ -40,8 +40,12 @@ module _ {k : Kind} {es : List Entry} {p n o : ℕ} {t : Tree k} (at : FormAt es
   pub within : p < length es
   within = reached (family k) Here es p known
 
+  -- and what stands there is made by the form
+  pub stands : {f : Form} → f ≡ (entry_at es p).form → part_at es p ≡ build (take p (parts es)) f
+  stands e = build_at es p no_entry within ∙ ap (build (take p (parts es))) (sym e)
+
 -- the form itself opens where it is said to
-pub opens : {k : Kind} (t : Tree k) (es : List Entry) (p n o : ℕ) → Lined es t p n o → Opens es p n o
+opens : {k : Kind} (t : Tree k) (es : List Entry) (p n o : ℕ) → Lined es t p n o → Opens es p n o
 opens (bag k) es p n o h = h
 opens (col j) es p n o h = h
 opens (lit v) es p n o h = h
@@ -67,6 +71,13 @@ opens (not c) es p n o h = h.0
 opens (count b) es p n o h = h.0
 opens (scale v a) es p n o h = h.0
 opens (clip lo hi a) es p n o h = h.0
+
+module _ {k : Kind} {es : List Entry} {p n o : ℕ} {t : Tree k} (at : FormAt es p n o t) {e : Entry} (is : e ≡ entry_at es p) where
+  pub line_of : e.line ≡ n
+  line_of = ap (λ (x : Entry). x.line) is ∙ (opens t es p n o at.lined).line
+
+  pub order_of : e.order ≡ o
+  order_of = ap (λ (x : Entry). x.order) is ∙ (opens t es p n o at.lined).order
 
 -- a part that stands where the form has it
 part_at_spot : {j : Kind} {es : List Entry} (p : ℕ) {m i : ℕ} (x : Tree j) (f : Form) → f ≡ (entry_at es p).form → (nth_part : ℕ) → part_at es (spot f nth_part) ≡ (family j).into x → Lined es x (part_position es p nth_part) m i → i + size x ≤ room → FormAt es (spot f nth_part) m i x

@@ -4,14 +4,14 @@ use Rattle.trees.specs.declared.Kind.{Kind}
 use Rattle.trees.specs.declared.Kind.TheVariants.{Bag, Condition, Number, Term}
 use Rattle.trees.specs.Size.{size}
 use Rattle.trees.specs.Tree.{Tree}
-use Rattle.trees.specs.Tree.Tree.{keep, put, pool, plus, times, pick, less, equal, either, not, count, sum, add, sub, least, most, scale, clip, let_in}
+use Rattle.trees.specs.Tree.Tree.{keep, put, pool, plus, times, pick, less, equal, either, not, count, sum}
 use Rattle.forms.specs.declared.form.Entry.{Entry}
 use Rattle.forms.specs.declared.form.Form.TheVariants as form
 use Rattle.forms.specs.Lined.{entry_at}
-use Rattle.forms.specs.Table.{Stands, part_at}
+use Rattle.forms.specs.Table.{part_at}
 use Rattle.typing.specs.Told.{FormAt, into_part}
 use Rattle.typing.proofs.Lengths.{sum_one, sum_three, sum_two}
-use Rattle.typing.proofs.Splits.{SplitOne, SplitThree, SplitTwo, split_one, split_three, split_two}
+use Rattle.typing.proofs.Splits.{SplitOne, SplitThree, SplitTwo, split_one, split_three, split_two, stands}
 
 -- a form without parts
 same_tree : {k : Kind} (t u : Tree k) → into_part t ≡ into_part u → t ≡ u
@@ -24,59 +24,38 @@ pub of_leaf : {k : Kind} {es : List Entry} {p n o : ℕ} {t : Tree k} (at : Form
 of_leaf {t = t} at u e = same_tree t u (sym at.is ∙ e)
 
 module _ {es : List Entry} {p n o : ℕ} where
-  pub of_keep : {t : Tree Bag} (at : FormAt es p n o t) (a b : ℕ) → form.Keep a b ≡ (entry_at es p).form → Stands es p (form.Keep a b) → SplitTwo keep es p n o (form.Keep a b) t
-  of_keep at a b v s = split_two keep at (form.Keep a b) v s (λ x y h. h) (λ x y. ap suc (sum_two (size x) (size y)))
+  pub of_keep : {t : Tree Bag} (at : FormAt es p n o t) {a b : ℕ} → form.Keep a b ≡ (entry_at es p).form → SplitTwo keep es p n o (form.Keep a b) t
+  of_keep at {a} {b} e = split_two keep at (form.Keep a b) e (stands at e) (λ x y h. h) (λ x y. ap suc (sum_two (size x) (size y)))
 
-  pub of_pool : {t : Tree Bag} (at : FormAt es p n o t) (a b : ℕ) → form.Pool a b ≡ (entry_at es p).form → Stands es p (form.Pool a b) → SplitTwo pool es p n o (form.Pool a b) t
-  of_pool at a b v s = split_two pool at (form.Pool a b) v s (λ x y h. h) (λ x y. ap suc (sum_two (size x) (size y)))
+  pub of_pool : {t : Tree Bag} (at : FormAt es p n o t) {a b : ℕ} → form.Pool a b ≡ (entry_at es p).form → SplitTwo pool es p n o (form.Pool a b) t
+  of_pool at {a} {b} e = split_two pool at (form.Pool a b) e (stands at e) (λ x y h. h) (λ x y. ap suc (sum_two (size x) (size y)))
 
-  pub of_plus : {t : Tree Term} (at : FormAt es p n o t) (a b : ℕ) → form.Plus a b ≡ (entry_at es p).form → Stands es p (form.Plus a b) → SplitTwo plus es p n o (form.Plus a b) t
-  of_plus at a b v s = split_two plus at (form.Plus a b) v s (λ x y h. h) (λ x y. ap suc (sum_two (size x) (size y)))
+  pub of_plus : {t : Tree Term} (at : FormAt es p n o t) {a b : ℕ} → form.Plus a b ≡ (entry_at es p).form → SplitTwo plus es p n o (form.Plus a b) t
+  of_plus at {a} {b} e = split_two plus at (form.Plus a b) e (stands at e) (λ x y h. h) (λ x y. ap suc (sum_two (size x) (size y)))
 
-  pub of_times : {t : Tree Term} (at : FormAt es p n o t) (a b : ℕ) → form.Times a b ≡ (entry_at es p).form → Stands es p (form.Times a b) → SplitTwo times es p n o (form.Times a b) t
-  of_times at a b v s = split_two times at (form.Times a b) v s (λ x y h. h) (λ x y. ap suc (sum_two (size x) (size y)))
+  pub of_times : {t : Tree Term} (at : FormAt es p n o t) {a b : ℕ} → form.Times a b ≡ (entry_at es p).form → SplitTwo times es p n o (form.Times a b) t
+  of_times at {a} {b} e = split_two times at (form.Times a b) e (stands at e) (λ x y h. h) (λ x y. ap suc (sum_two (size x) (size y)))
 
-  pub of_less : {t : Tree Condition} (at : FormAt es p n o t) (a b : ℕ) → form.Less a b ≡ (entry_at es p).form → Stands es p (form.Less a b) → SplitTwo less es p n o (form.Less a b) t
-  of_less at a b v s = split_two less at (form.Less a b) v s (λ x y h. h) (λ x y. ap suc (sum_two (size x) (size y)))
+  pub of_less : {t : Tree Condition} (at : FormAt es p n o t) {a b : ℕ} → form.Less a b ≡ (entry_at es p).form → SplitTwo less es p n o (form.Less a b) t
+  of_less at {a} {b} e = split_two less at (form.Less a b) e (stands at e) (λ x y h. h) (λ x y. ap suc (sum_two (size x) (size y)))
 
-  pub of_equal : {t : Tree Condition} (at : FormAt es p n o t) (a b : ℕ) → form.Equal a b ≡ (entry_at es p).form → Stands es p (form.Equal a b) → SplitTwo equal es p n o (form.Equal a b) t
-  of_equal at a b v s = split_two equal at (form.Equal a b) v s (λ x y h. h) (λ x y. ap suc (sum_two (size x) (size y)))
+  pub of_equal : {t : Tree Condition} (at : FormAt es p n o t) {a b : ℕ} → form.Equal a b ≡ (entry_at es p).form → SplitTwo equal es p n o (form.Equal a b) t
+  of_equal at {a} {b} e = split_two equal at (form.Equal a b) e (stands at e) (λ x y h. h) (λ x y. ap suc (sum_two (size x) (size y)))
 
-  pub of_either : {t : Tree Condition} (at : FormAt es p n o t) (a b : ℕ) → form.Either a b ≡ (entry_at es p).form → Stands es p (form.Either a b) → SplitTwo either es p n o (form.Either a b) t
-  of_either at a b v s = split_two either at (form.Either a b) v s (λ x y h. h) (λ x y. ap suc (sum_two (size x) (size y)))
+  pub of_either : {t : Tree Condition} (at : FormAt es p n o t) {a b : ℕ} → form.Either a b ≡ (entry_at es p).form → SplitTwo either es p n o (form.Either a b) t
+  of_either at {a} {b} e = split_two either at (form.Either a b) e (stands at e) (λ x y h. h) (λ x y. ap suc (sum_two (size x) (size y)))
 
-  pub of_add : {t : Tree Number} (at : FormAt es p n o t) (a b : ℕ) → form.Add a b ≡ (entry_at es p).form → Stands es p (form.Add a b) → SplitTwo add es p n o (form.Add a b) t
-  of_add at a b v s = split_two add at (form.Add a b) v s (λ x y h. h) (λ x y. ap suc (sum_two (size x) (size y)))
+  pub of_put : {t : Tree Bag} (at : FormAt es p n o t) {j : ℤ} {a b : ℕ} → form.Put j a b ≡ (entry_at es p).form → SplitTwo (put j) es p n o (form.Put j a b) t
+  of_put at {j} {a} {b} e = split_two (put j) at (form.Put j a b) e (stands at e) (λ x y h. h) (λ x y. ap suc (sum_two (size x) (size y)))
 
-  pub of_sub : {t : Tree Number} (at : FormAt es p n o t) (a b : ℕ) → form.Sub a b ≡ (entry_at es p).form → Stands es p (form.Sub a b) → SplitTwo sub es p n o (form.Sub a b) t
-  of_sub at a b v s = split_two sub at (form.Sub a b) v s (λ x y h. h) (λ x y. ap suc (sum_two (size x) (size y)))
+  pub of_sum : {t : Tree Number} (at : FormAt es p n o t) {lo hi : ℤ} {a b : ℕ} → form.Sum lo hi a b ≡ (entry_at es p).form → SplitTwo (sum lo hi) es p n o (form.Sum lo hi a b) t
+  of_sum at {lo} {hi} {a} {b} e = split_two (sum lo hi) at (form.Sum lo hi a b) e (stands at e) (λ x y h. h) (λ x y. ap suc (sum_two (size x) (size y)))
 
-  pub of_least : {t : Tree Number} (at : FormAt es p n o t) (a b : ℕ) → form.Least a b ≡ (entry_at es p).form → Stands es p (form.Least a b) → SplitTwo least es p n o (form.Least a b) t
-  of_least at a b v s = split_two least at (form.Least a b) v s (λ x y h. h) (λ x y. ap suc (sum_two (size x) (size y)))
+  pub of_pick : {t : Tree Term} (at : FormAt es p n o t) {c a b : ℕ} → form.Pick c a b ≡ (entry_at es p).form → SplitThree pick es p n o (form.Pick c a b) t
+  of_pick at {c} {a} {b} e = split_three pick at (form.Pick c a b) e (stands at e) (λ x y z h. h) (λ x y z. ap suc (sum_three (size x) (size y) (size z)))
 
-  pub of_most : {t : Tree Number} (at : FormAt es p n o t) (a b : ℕ) → form.Most a b ≡ (entry_at es p).form → Stands es p (form.Most a b) → SplitTwo most es p n o (form.Most a b) t
-  of_most at a b v s = split_two most at (form.Most a b) v s (λ x y h. h) (λ x y. ap suc (sum_two (size x) (size y)))
+  pub of_not : {t : Tree Condition} (at : FormAt es p n o t) {a : ℕ} → form.Not a ≡ (entry_at es p).form → SplitOne not es p n o (form.Not a) t
+  of_not at {a} e = split_one not at (form.Not a) e (stands at e) (λ x h. h) (λ x. ap suc (sum_one (size x)))
 
-  pub of_let : {t : Tree Number} (at : FormAt es p n o t) (a b : ℕ) → form.Let a b ≡ (entry_at es p).form → Stands es p (form.Let a b) → SplitTwo let_in es p n o (form.Let a b) t
-  of_let at a b v s = split_two let_in at (form.Let a b) v s (λ x y h. h) (λ x y. ap suc (sum_two (size x) (size y)))
-
-  pub of_put : {t : Tree Bag} (at : FormAt es p n o t) (j : ℤ) (a b : ℕ) → form.Put j a b ≡ (entry_at es p).form → Stands es p (form.Put j a b) → SplitTwo (put j) es p n o (form.Put j a b) t
-  of_put at j a b v s = split_two (put j) at (form.Put j a b) v s (λ x y h. h) (λ x y. ap suc (sum_two (size x) (size y)))
-
-  pub of_sum : {t : Tree Number} (at : FormAt es p n o t) (lo hi : ℤ) (a b : ℕ) → form.Sum lo hi a b ≡ (entry_at es p).form → Stands es p (form.Sum lo hi a b) → SplitTwo (sum lo hi) es p n o (form.Sum lo hi a b) t
-  of_sum at lo hi a b v s = split_two (sum lo hi) at (form.Sum lo hi a b) v s (λ x y h. h) (λ x y. ap suc (sum_two (size x) (size y)))
-
-  pub of_pick : {t : Tree Term} (at : FormAt es p n o t) (c a b : ℕ) → form.Pick c a b ≡ (entry_at es p).form → Stands es p (form.Pick c a b) → SplitThree pick es p n o (form.Pick c a b) t
-  of_pick at c a b v s = split_three pick at (form.Pick c a b) v s (λ x y z h. h) (λ x y z. ap suc (sum_three (size x) (size y) (size z)))
-
-  pub of_not : {t : Tree Condition} (at : FormAt es p n o t) (a : ℕ) → form.Not a ≡ (entry_at es p).form → Stands es p (form.Not a) → SplitOne not es p n o (form.Not a) t
-  of_not at a v s = split_one not at (form.Not a) v s (λ x h. h) (λ x. ap suc (sum_one (size x)))
-
-  pub of_count : {t : Tree Number} (at : FormAt es p n o t) (a : ℕ) → form.Count a ≡ (entry_at es p).form → Stands es p (form.Count a) → SplitOne count es p n o (form.Count a) t
-  of_count at a v s = split_one count at (form.Count a) v s (λ x h. h) (λ x. ap suc (sum_one (size x)))
-
-  pub of_scale : {t : Tree Number} (at : FormAt es p n o t) (v : ℤ) (a : ℕ) → form.Scale v a ≡ (entry_at es p).form → Stands es p (form.Scale v a) → SplitOne (scale v) es p n o (form.Scale v a) t
-  of_scale at v a v' s = split_one (scale v) at (form.Scale v a) v' s (λ x h. h) (λ x. ap suc (sum_one (size x)))
-
-  pub of_clip : {t : Tree Number} (at : FormAt es p n o t) (lo hi : ℤ) (a : ℕ) → form.Clip lo hi a ≡ (entry_at es p).form → Stands es p (form.Clip lo hi a) → SplitOne (clip lo hi) es p n o (form.Clip lo hi a) t
-  of_clip at lo hi a v s = split_one (clip lo hi) at (form.Clip lo hi a) v s (λ x h. h) (λ x. ap suc (sum_one (size x)))
+  pub of_count : {t : Tree Number} (at : FormAt es p n o t) {a : ℕ} → form.Count a ≡ (entry_at es p).form → SplitOne count es p n o (form.Count a) t
+  of_count at {a} e = split_one count at (form.Count a) e (stands at e) (λ x h. h) (λ x. ap suc (sum_one (size x)))

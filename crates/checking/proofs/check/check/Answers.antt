@@ -1,7 +1,5 @@
 use Rattle.checking.proofs.Exactly.{exactly}
 use Rattle.checking.proofs.check.check.Goals as goal
 
-pub returns : goal.returns
-returns c =
-    let h = c.check_or_clear.ensures in
-    record { outcome = h; exactly = exactly c.args.catalogue.now c.args.text.now c.args.notes.now c.check_or_clear.new.notes c.args.query.now c.check_or_clear.new.query c.check_or_clear.result h }
+pub returns-clause-exactly : goal.returns-clause-exactly
+returns-clause-exactly c = exactly c.args.catalogue.now c.args.text.now c.args.notes.now c.check_or_clear.new.notes c.args.query.now c.check_or_clear.new.query c.check_or_clear.result c.check_or_clear.ensures

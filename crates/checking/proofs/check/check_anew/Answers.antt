@@ -1,36 +1,25 @@
-use Rattle.std.proofs.Common.{◌≡◌, ℕ, ◌-◌, List, [], ◌++◌, length, replicate, ap₂, sym, ap, ◌∙◌, subst, arith}
+use Rattle.std.proofs.Common.{◌≡◌, ℕ, ◌-◌, List, [], ◌++◌, length, replicate, ap₂, sym, ap, ◌∙◌, arith}
 use Rattle.std.proofs.lemmas.Result.{err_from_is_err_and}
-use Rattle.rules.specs.declared.catalogue.Catalogue.{Catalogue}
 use Rattle.trees.specs.Size.{size}
 use Rattle.forms.specs.Limits.{room}
 use Rattle.typing.specs.declared.note.Note.{Note}
 use Rattle.typing.proofs.Lengths.{number_count}
 use Rattle.typing.specs.Notes.{blank_note, number_notes}
 use Rattle.checking.proofs.Blanks.{length_behind, noted_first, put_behind}
-use Rattle.checking.proofs.Calls.{faulty_call, faulty_text}
+use Rattle.checking.proofs.Calls.{faulty_call}
 use Rattle.checking.proofs.check.check_anew.Goals as goal
-use Rattle.checking.specs.Check.{RuledOut}
-use Rattle.checking.specs.Fills.{FillsQuery}
 
 pub returns-in_err-call : goal.returns-in_err-call
 returns-in_err-call c =
     let p = err_from_is_err_and c.from_residual.result c.from_residual.ensures.1 in
     rw (p.1, p.2) (faulty_call c.args.catalogue.now c.args.text.now c.in_err-call.field-0.0 c.in_err-call.ensures.fault)
 
-pub returns-in_err-fill : goal.returns-in_err-fill
-returns-in_err-fill c =
-    let p = err_from_is_err_and c.from_residual-in_err-fill.result c.from_residual-in_err-fill.ensures.1 in
-    let e = c.in_err-fill.field-0.0 in
-    let same = c.in_ok-call.ensures.call in
-    let out = subst (λ (k : Catalogue). RuledOut k c.args.text.now e) same.1 (subst (λ (bs : List ℕ). RuledOut c.in_ok-call.call.catalogue.now bs e) same.0 c.in_err-fill.ensures) in
-    rw (p.1, p.2) (faulty_text c.args.catalogue.now c.args.text.now e (sym c.in_ok-call.ensures.fault) out)
-
 pub returns : goal.returns
 returns c =
     let k = c.args.catalogue.now in
     let same = c.in_ok-call.ensures.call in
     let before = c.args.notes.now in
-    let d = subst (λ (x : Catalogue). FillsQuery x c.args.text.now before c.fill.new.notes c.fill.new.self) same.1 (subst (λ (bs : List ℕ). FillsQuery c.in_ok-call.call.catalogue.now bs before c.fill.new.notes c.fill.new.self) same.0 c.in_ok-fill.ensures) in
+    let d = rw (same.0, same.1) at c.in_ok-fill.ensures in
     let n = length c.entries-forms.result.now in
     let ns = number_notes 1 k [] d.tree in
     let many : n ≡ size d.tree = ap length c.entries-forms.ensures.value ∙ d.filled.holds.0.1 in

@@ -1,12 +1,10 @@
-use Rattle.std.proofs.Common.{◌≡◌, ℕ, ◌+◌, ◌-◌, ◌≤◌, List, [], ◌++◌, Bool, None, length, ap, ◌∙◌, ap₂, arith}
+use Rattle.std.proofs.Common.{◌≡◌, ℕ, ◌+◌, ◌-◌, ◌≤◌, [], Bool, None, length, ap, arith}
 use Rattle.refusals.specs.Rules.{unless}
 use Rattle.std.proofs.lemmas.Bool.{le-leb}
 use Rattle.forms.specs.Limits.{room}
 use Rattle.trees.specs.Size.{size}
 use Rattle.typing.specs.Notes.{number_notes}
-use Rattle.typing.specs.declared.note.Note.{Note}
-use Rattle.checking.proofs.Blanks.{blank_behind, blank_joined}
-use Rattle.checking.proofs.Calls.{refused_clear}
+use Rattle.checking.proofs.Blanks.{blank_behind}
 use Rattle.checking.proofs.check.check_or_clear.Goals as goal
 use Rattle.checking.specs.Check.{places_fault}
 use Rattle.checking.specs.declared.fault.CheckFault.TheVariants.{FewNotes}
@@ -32,11 +30,3 @@ returns-in-Ok c =
         filled = a.filled;
       },
     )
-
-pub returns-in-Err : goal.returns-in-Err
-returns-in-Err c =
-    let all = length c.args.notes.now in
-    let behind = length c.in-Some.behind.now in
-    let long : behind + room ≡ all = c.in-Some.ensures.cases.2 in
-    refused_clear c.args.catalogue.now c.args.text.now c.args.notes.now _ c.args.query.now _ c.in-Err.fault (enough all (omega (arith, long))) c.in-Err.ensures
-    (record { notes = ap₂ (λ (a b : List Note). a ++ b) c.blank-in-Err.ensures c.blank.ensures ∙ blank_joined _ behind all (omega (arith, long, c.check_anew.array_long)); query = c.clear.ensures })

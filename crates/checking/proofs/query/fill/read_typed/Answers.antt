@@ -1,9 +1,7 @@
 -- The text spells a tree, which is typed where it stands.
 use Rattle.std.proofs.Common.{ℕ, List, Ok, sym, ap, ◌∙◌, subst, arith}
-use Rattle.std.proofs.lemmas.Result.{err_from_is_err_and}
 use Rattle.sources.specs.declared.shapes.Range.{Range}
 use Rattle.forms.specs.declared.form.Entry.{Entry}
-use Rattle.forms.specs.Held.{held}
 use Rattle.reading.specs.Law.{HoldsLined}
 use Rattle.rules.specs.Typing.{number_typed}
 use Rattle.types.specs.Shown.{number_shown}
@@ -14,26 +12,19 @@ use Rattle.checking.proofs.query.fill.read_typed.Goals as goal
 
 pub overflow_sub-entries : goal.overflow_sub-entries
 overflow_sub-entries c =
-    let w = whole c.args.call.now.text.now (held c.read.new.table) c.entries-entries.result.now _ c.in_ok-read.ensures.law c.in_ok-read.ensures.lines c.args.call.now.some c.entries-entries.ensures.value in
+    let w = whole c.in_ok-read.ensures.law c.in_ok-read.ensures.lines c.args.call.now.some c.entries-entries.ensures.value in
     omega (arith, w.holds.0.1, number_some w.tree c.args.call.now.catalogue.now)
 
-pub number-requires : goal.number-requires
-number-requires c =
-    let w = whole c.args.call.now.text.now (held c.read.new.table) c.entries-entries.result.now _ c.in_ok-read.ensures.law c.in_ok-read.ensures.lines c.args.call.now.some c.entries-entries.ensures.value in
-    record { sound = c.args.call.now.sound; places = omega arith; is = (1, 0, w.tree, at_start c.args.call.now.text.now c.entries-entries.result.now c.new.result w c.new.ensures.spare) }
-
-pub returns-in_err-typed : goal.returns-in_err-typed
-returns-in_err-typed c =
-    let p = err_from_is_err_and c.from_residual-in_err-typed.result c.from_residual-in_err-typed.ensures.1 in
-    let w = whole c.args.call.now.text.now (held c.read.new.table) c.entries-entries.result.now _ c.in_ok-read.ensures.law c.in_ok-read.ensures.lines c.args.call.now.some c.entries-entries.ensures.value in
-    let d = c.in_err-typed.ensures 1 0 w.tree (at_start c.args.call.now.text.now c.entries-entries.result.now c.new.result w c.new.ensures.spare) in
-    rw (p.1, p.2) (w.tree, w.spells, ap (λ (rs : List Range). number_typed 1 c.args.call.now.catalogue.now rs w.tree) (sym c.new.ensures.items) ∙ d)
+pub number-requires-clause-is : goal.number-requires-clause-is
+number-requires-clause-is c =
+    let w = whole c.in_ok-read.ensures.law c.in_ok-read.ensures.lines c.args.call.now.some c.entries-entries.ensures.value in
+    (1, 0, w.tree, at_start c.new.result w c.new.ensures.spare)
 
 pub returns : goal.returns
 returns c =
     let k = c.args.call.now.catalogue.now in
-    let w = whole c.args.call.now.text.now (held c.read.new.table) c.entries-entries.result.now _ c.in_ok-read.ensures.law c.in_ok-read.ensures.lines c.args.call.now.some c.entries-entries.ensures.value in
-    let d = c.in_ok-typed.ensures 1 0 w.tree (at_start c.args.call.now.text.now c.entries-entries.result.now c.new.result w c.new.ensures.spare) in
+    let w = whole c.in_ok-read.ensures.law c.in_ok-read.ensures.lines c.args.call.now.some c.entries-entries.ensures.value in
+    let d = c.in_ok-typed.ensures 1 0 w.tree (at_start c.new.result w c.new.ensures.spare) in
     let empty = c.new.ensures.items in
     record {
       tree = w.tree;

@@ -6,15 +6,6 @@ use Rattle.types.proofs.Scopes.{length_scope}
 use Rattle.types.proofs.Sensitivities.{drop_one}
 use Rattle.types.proofs.weights.Weights.one_at.Goals as goal
 
-pub overflow_add-values : goal.overflow_add-values
-overflow_add-values c = omega (arith, c.requires, length_scope c.args.scope.now, c.spare.ensures)
-
-pub offset_bounds-values-spare : goal.offset_bounds-values-spare
-offset_bounds-values-spare c = omega (arith, c.requires, length_scope c.args.scope.now, c.spare.ensures)
-
-pub bounds-values-spare : goal.bounds-values-spare
-bounds-values-spare c = omega (arith, c.requires, length_scope c.args.scope.now, c.spare.ensures)
-
 pub returns : goal.returns
 returns c =
     let v = c.args.scope.now in

@@ -10,9 +10,6 @@ use Rattle.types.proofs.weights.Weights.times.Goals as goal
 times_is : (n : ℕ) (zs rest ws : List ℕ) → zs ≡ replicate n 0 → length rest ≡ n → ws ≡ all_added zs rest → ws ≡ rest
 times_is n zs rest ws none as_long is = is ∙ ap (λ ys. all_added ys rest) none ∙ zeros_added n rest as_long
 
-pub with_times-requires : goal.with_times-requires
-with_times-requires c = c.requires
-
 pub returns : goal.returns
 returns c =
     λ v small.
