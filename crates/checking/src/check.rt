@@ -39,14 +39,12 @@ fn check_or_clear(
         return Err(CheckFault::FewNotes);
     };
     blank(behind);
-    match check_anew(text, catalogue, places, query) {
-        Ok(()) => Ok(()),
-        Err(fault) => {
-            blank(places);
-            query.clear();
-            Err(fault)
-        }
+    let reply = check_anew(text, catalogue, places, query);
+    if reply.is_err() {
+        blank(places);
+        query.clear();
     }
+    reply
 }
 
 // What it leaves where it refuses is of no use.

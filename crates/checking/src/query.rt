@@ -23,12 +23,6 @@ pub struct Query {
 
 // What an empty query stands under: sources of no rows, and settings that are 0.
 const NO_CATALOGUE: Catalogue = Catalogue {
-    sources: [NO_SOURCE, NO_SOURCE],
+    sources: [Shape::EMPTY, Shape::EMPTY],
     settings: [Range::ZERO, Range::ZERO],
-};
-
-const NO_SOURCE: Shape = Shape {
-    width: 1,
-    limit: 0,
-    columns: [Range::ZERO; 6],
 };

@@ -55,8 +55,9 @@ fn has_range<S: Source>(source: &S, j: usize, range: Range) -> bool
 fn check_settings(catalogue: &Catalogue, settings: &[i64; 2]) -> Result<(), PlantFault>
     ensures { reason plant_refusal result ≡ settings_rule catalogue.now settings.now }
 {
-    match (0..2).find(|&k| !catalogue.settings[k].holds(settings[k])) {
-        Some(setting) => Err(PlantFault::Setting { setting }),
-        None => Ok(()),
-    }
+    let ranges = catalogue.settings.iter();
+    let outside = ranges
+        .zip(settings)
+        .position(|(range, value)| !range.holds(*value));
+    outside.map_or(Ok(()), |setting| Err(PlantFault::Setting { setting }))
 }

@@ -60,6 +60,7 @@ fn pass(entries: &[Entry], at: usize, mut row: [i64; CELLS]) -> Option<[i64; CEL
         Form::Keep { condition, .. } => eval_condition(entries, condition, &row).then_some(row),
         Form::Put { column, term, .. } => {
             let value = eval_term(entries, term, &row);
+            // `as`: as in `eval_term`.
             row[column as usize] = value;
             Some(row)
         }

@@ -34,6 +34,7 @@ impl Figures<'_> {
     {
         match form_at(self.entries, at) {
             Form::Num { value } => value,
+            // `as`: as in `eval_term`.
             Form::Setting { input } => self.settings[input as usize],
             Form::Var { index } => scope.as_slice()[index as usize],
             Form::Count { .. } | Form::Sum { .. } => self.totals[at],

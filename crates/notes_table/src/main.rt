@@ -4,6 +4,7 @@
 use anyhow::anyhow;
 use checking::check::check;
 use checking::query::Query;
+use forms::limits::ROOM;
 use pans::DAY;
 use refusals::Fault;
 use rules::catalogue::Catalogue;
@@ -22,7 +23,7 @@ fn main(rt: HostRuntime) -> anyhow::Result<()> {
 }
 
 fn tell(rt: &HostRuntime) -> anyhow::Result<()> {
-    let mut notes = [Note::BLANK; 64];
+    let mut notes = [Note::BLANK; ROOM];
     let mut query = Query::new(rt.alloc())?;
     for name in ["under_1180.query", "no_such_column.query"] {
         let text = fs::read(rt, name).map_err(|error| anyhow!("{name} cannot be read: {error}"))?;

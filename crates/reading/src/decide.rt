@@ -4,6 +4,7 @@ ghost use Rattle.reading.specs.Decide.{fits, has_parts, has_room, leaves_open, l
 
 use crate::fault::FormFault;
 use crate::frame::Frame;
+use forms::limits::ROOM;
 use lines::heading::Heading;
 use lines::token::Token;
 use trees::Kind;
@@ -12,8 +13,8 @@ use trees::words::Word;
 // How deep a form may stand.
 pub const MAX_DEPTH: usize = 16;
 
-// How many forms a text may have.
-pub const MAX_FORMS: usize = 64;
+// How many forms a text may have: as many as a table holds.
+pub const MAX_FORMS: usize = ROOM;
 
 // The kind that the next form is to have, if a form may stand here. The text wants one number.
 pub fn wanted(innermost: Option<Frame>, forms: usize) -> Option<Kind>

@@ -24,13 +24,11 @@ fn read_anew(text: &[u8], table: &mut Table) -> Result<(), FormFault>
     ensures table { held table.new ≡ entries_of (text_read text.now) }
 {
     table.clear();
-    match fill(text, table) {
-        Ok(()) => Ok(()),
-        Err(fault) => {
-            table.clear();
-            Err(fault)
-        }
+    let reply = fill(text, table);
+    if reply.is_err() {
+        table.clear();
     }
+    reply
 }
 
 // Fills an empty table. After a fault, the entries up to it are left in the table.
@@ -55,8 +53,5 @@ fn fill(text: &[u8], table: &mut Table) -> Result<(), FormFault>
 fn kinds(wrong: Option<usize>) -> Result<(), FormFault>
     ensures { result ≡ kinds_read wrong }
 {
-    match wrong {
-        Some(line) => Err(FormFault::WrongKind { line }),
-        None => Ok(()),
-    }
+    wrong.map_or(Ok(()), |line| Err(FormFault::WrongKind { line }))
 }

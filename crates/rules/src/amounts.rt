@@ -73,6 +73,16 @@ impl Amounts {
         Amounts::from_fn(|input| factor * self.at(input))
     }
 
+    // This and so many times the other, at each input.
+    pub fn with_times(self, factor: u64, other: Amounts) -> Amounts
+        requires own { at_most sensitivity_bound self ≡ true }
+        requires factor { factor ≤ sensitivity_bound }
+        requires other { at_most sensitivity_bound other ≡ true }
+        ensures { result ≡ added self (times factor other) }
+    {
+        Amounts::from_fn(|input| self.at(input) + factor * other.at(input))
+    }
+
     // Whether none is above the bound.
     pub fn are_at_most(self, bound: u64) -> bool
         ensures { result ≡ at_most bound self }

@@ -13,7 +13,7 @@ pub struct Stack<T, const N: usize> {
     ghost within: { first ≤ N },
 }
 
-// By hand, since no derive goes over a ghost field.
+// By hand, since the derive does not go over ghost fields that speak of the size.
 impl<T: Copy, const N: usize> Copy for Stack<T, N> {}
 
 impl<T: Copy, const N: usize> Clone for Stack<T, N> {

@@ -56,11 +56,9 @@ fn level_behind(level: usize, byte: u8) -> usize
     requires { level < 2 ^ 63 }
     ensures { result ≡ opened level byte }
 {
-    if byte == b'(' {
-        level + 1
-    } else if byte == b')' {
-        level.saturating_sub(1)
-    } else {
-        level
+    match byte {
+        b'(' => level + 1,
+        b')' => level.saturating_sub(1),
+        _ => level,
     }
 }

@@ -1,7 +1,6 @@
 // What the words make of numbers.
 ghost use Rattle.std.specs.Prelude.{◌≡◌, ℕ, ◌-◌, ◌<◌, ◌≤◌, true, int_le, unsigned_abs};
 ghost use Rattle.refusals.specs.Rules.{reason};
-ghost use Rattle.rules.specs.Amounts.{added, at_most, times as multiplied};
 ghost use Rattle.rules.specs.Ranges.{differences, greater, lesser, sums};
 ghost use Rattle.rules.specs.Typing.{both, cut, multiple, named, number_rule, scope_rule, sensitivity_bound, settle};
 ghost use Rattle.sources.specs.declared.shapes.Range.{Range};
@@ -86,7 +85,7 @@ impl TypedNumber {
         let uses = self.vars.at_inner(scope);
         TypedNumber {
             range: self.range,
-            inputs: with_times(self.inputs, uses, bound.inputs),
+            inputs: self.inputs.with_times(uses, bound.inputs),
             vars: self.vars.unfolded(&bound.vars, scope),
         }
     }
@@ -117,20 +116,5 @@ impl TypedNumber {
             inputs: self.inputs.added(other.inputs),
             vars: self.vars.added(&other.vars),
         }
-    }
-}
-
-// One amount and so many times the other, at each input.
-fn with_times(own: Amounts, factor: u64, other: Amounts) -> Amounts
-    requires own { at_most sensitivity_bound own ≡ true }
-    requires factor { factor ≤ sensitivity_bound }
-    requires small { at_most sensitivity_bound other ≡ true }
-    ensures { result ≡ added own (multiplied factor other) }
-{
-    Amounts {
-        source_0: own.source_0 + factor * other.source_0,
-        source_1: own.source_1 + factor * other.source_1,
-        setting_0: own.setting_0 + factor * other.setting_0,
-        setting_1: own.setting_1 + factor * other.setting_1,
     }
 }

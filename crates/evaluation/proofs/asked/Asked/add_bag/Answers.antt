@@ -14,12 +14,13 @@ add_leaf-total-requires g c =
 pub loop-nth-preserved : goal.loop-nth-preserved
 loop-nth-preserved g c =
     let h = c.requires in
-    let found = c.in-Some-find_route.ensures h.tree h.is in
-    (rw c.in-Some.ensures.steps.1 (
-        to_z-of_z w64 c.add_leaf-total.result (record { sfits = c.add_leaf-total.type_inv })
-        ∙ c.add_leaf-total.ensures _ (leaf_adds h found.0 (rw c.in-Some.ensures.steps.0 c.loop-nth.invariant.0) found.1)
-        ∙ leaf_added h found.0 (rw c.in-Some.ensures.steps.0 c.loop-nth.invariant.0)),
-    omega (arith, c.in-Some.ensures.steps.1, found.2))
+    let found = c.in-Some-find_route.ensures h.tree h.is in (
+      rw c.in-Some.ensures.steps.1 (
+          to_z-of_z w64 c.add_leaf-total.result (record { sfits = c.add_leaf-total.type_inv })
+          ∙ c.add_leaf-total.ensures _ (leaf_adds h found.0 (rw c.in-Some.ensures.steps.0 c.loop-nth.invariant.0) found.1)
+          ∙ leaf_added h found.0 (rw c.in-Some.ensures.steps.0 c.loop-nth.invariant.0)),
+      omega (arith, c.in-Some.ensures.steps.1, found.2),
+    )
 
 -- the numbers do not end before the leaves
 pub returns-in-None : goal.returns-in-None
