@@ -6,6 +6,7 @@ use std::alloc::AllocError;
 mod calls;
 
 // In place, so that nothing is allocated. The innermost item stands at `first`, the outermost last.
+#[derive(Copy)]
 pub struct Stack<T, const N: usize> {
     items: [T; N],
     first: usize,
@@ -13,9 +14,7 @@ pub struct Stack<T, const N: usize> {
     ghost within: { first ≤ N },
 }
 
-// By hand, since the derive does not go over ghost fields that speak of the size.
-impl<T: Copy, const N: usize> Copy for Stack<T, N> {}
-
+// By hand, since `Clone` is not derived over ghost fields where a type is `Copy` only with its items.
 impl<T: Copy, const N: usize> Clone for Stack<T, N> {
     fn clone(&self) -> Result<Stack<T, N>, AllocError> {
         Ok(*self)
