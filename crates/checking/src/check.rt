@@ -12,6 +12,9 @@ use forms::limits::ROOM;
 use rules::catalogue::Catalogue;
 use typing::note::Note;
 
+// How many bytes a text has at most.
+pub const MAX_TEXT: usize = 4096;
+
 // Checks the text against the catalogue. An accepted text fills the query, and each of its forms is noted in order of
 // opening lines; the other places are blank. A refused text empties the query and blanks all notes, but where there are
 // too few places nothing is touched. Linear in the text and the places; nothing is allocated.

@@ -4,11 +4,9 @@ ghost use Rattle.checking.specs.Check.{call_fault};
 ghost use Rattle.checking.specs.Faults.{fault_in};
 
 use super::Call;
+use crate::check::MAX_TEXT;
 use crate::fault::CheckFault;
 use rules::catalogue::Catalogue;
-
-// How many bytes a text has at most.
-pub const MAX_TEXT: usize = 4096;
 
 impl<'a> Call<'a> {
     // The catalogue is looked at before the size of the text.
