@@ -1,50 +1,18 @@
 // The way that a row takes from a leaf to the top of its bag.
-ghost use Rattle.std.specs.Prelude.{◌≡◌, ◌<◌, [], ◌∷◌, ◌++◌, length};
+ghost use Rattle.std.specs.Prelude.{◌≡◌, ◌≤◌, length};
 ghost use Rattle.forms.specs.Limits.{room};
-ghost use Rattle.forms.specs.Route.{from_source, steps_of};
 
 use crate::limits::ROOM;
-use arrayvec::ArrayVec;
 
-// The leaf's source, and the positions of the keep and put forms on the way up, the nearest to the leaf first.
-#[derive(Drop)]
+mod calls;
+
+// The leaf's source, and the positions of the `len` keep and put forms on the way up, the nearest to the leaf first. An
+// array, since a route is `Copy`, and no list of the library that allocates nothing is.
+#[derive(Clone, Copy)]
 pub struct Route {
     source: i64,
-    steps: ArrayVec<usize, ROOM>,
-}
-
-impl Route {
-    // From a leaf that is itself the top.
-    pub(crate) fn new(source: i64) -> Route
-        ensures source { from_source result ≡ source }
-        ensures steps { steps_of result ≡ [] }
-    {
-        Route {
-            source,
-            steps: ArrayVec::new(),
-        }
-    }
-
-    // One step further up.
-    pub(crate) fn push(&mut self, at: usize)
-        requires { length (steps_of self.old) < room }
-        ensures source { from_source self.new ≡ from_source self.old }
-        ensures steps { steps_of self.new ≡ steps_of self.old ++ at ∷ [] }
-    {
-        self.steps.push(at);
-    }
-
-    // The source that the leaf names.
-    pub fn source(&self) -> i64
-        ensures { result ≡ from_source self.now }
-    {
-        self.source
-    }
-
-    // The positions of the steps, the nearest to the leaf first.
-    pub(crate) fn steps(&self) -> &[usize]
-        ensures { result.now ≡ steps_of self.now }
-    {
-        self.steps.as_slice()
-    }
+    steps: [usize; ROOM],
+    len: usize,
+    ghost full: { length steps ≡ room },
+    ghost within: { len ≤ room },
 }
