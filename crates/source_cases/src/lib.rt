@@ -199,7 +199,11 @@ mod tests {
 
     // A row in six cells, where it is there.
     fn row_of<S: Source>(source: &S, row: usize) -> Option<[i64; 6]> {
-        (row < source.count()).then(|| padded_row(source, source.width(), row))
+        if row < source.count() {
+            Some(padded_row(source, source.width(), row))
+        } else {
+            None
+        }
     }
 
     #[test]
