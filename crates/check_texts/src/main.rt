@@ -1,8 +1,8 @@
 // Reads many texts, with `=` between them, checks each under one catalogue, and tells what the rules give it and its forms, or its refusal.
 #![tactic(auto)]
 
-ghost use Rattle.std.specs.Prelude.{◌≡◌};
-ghost use Rattle.check_texts.specs.Shown.{blank};
+ghost use Rattle.std.specs.Prelude.{◌≡◌, Some};
+ghost use Rattle.check_texts.specs.Shown.{blank, word_of};
 ghost use Rattle.std.specs.List.{suffix_len};
 
 use checking::check::check as check_text;
@@ -10,8 +10,9 @@ use checking::query::Query;
 use refusals::{Fault, Refusal};
 use rules::catalogue::Catalogue;
 use sources::{Range, Shape};
-use std::io;
 use std::io::Read;
+use std::{fmt, io};
+use trees::Kind;
 use typing::note::Note;
 
 // Some more places than a query can have forms.
@@ -97,15 +98,32 @@ fn tell_notes(rt: &HostRuntime, notes: &[Note]) -> io::Result<()> {
 }
 
 fn tell_note(rt: &HostRuntime, note: &Note) -> io::Result<()> {
-    match note.kind {
-        Some(kind) => print!(rt; "  {kind}")?,
-        None => print!(rt; "  blank")?,
-    }
-    println!(rt; " {} {} {}", note.low, note.high, note.sensitivities)
+    println!(rt;
+        "  {} {} {} {}",
+        Told(note.kind),
+        note.low,
+        note.high,
+        note.sensitivities
+    )
 }
 
 fn tell_refusal(rt: &HostRuntime, refusal: Refusal) -> io::Result<()> {
     println!(rt; "refused {refusal}")
+}
+
+// The kind of a note, or that it is blank.
+#[derive(Clone, Copy)]
+struct Told(Option<Kind>);
+
+impl fmt::Display for Told {
+    ghost output = { λ told. Some (word_of told.0) };
+
+    fn fmt<W: fmt::Write>(&self, f: &mut fmt::Formatter<W>) -> fmt::Result {
+        match self.0 {
+            Some(kind) => write!(f, "{kind}"),
+            None => f.write_str("blank"),
+        }
+    }
 }
 
 // How many blank places stand last.

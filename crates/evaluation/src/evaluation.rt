@@ -34,5 +34,5 @@ pub fn evaluate<A: Source, B: Source>(entries: &[Entry], plant: &Plant<A, B>) ->
         totals: &totals,
         settings: &settings,
     };
-    figures.number(entries.len() - 1, &Scope::new(0))
+    figures.number(entries.len() - 1, &Scope::new())
 }

@@ -71,7 +71,7 @@ fn lets_nest(rt: HostRuntime) -> Result<(), Fail> {
         totals: &[0; ROOM],
         settings: &[1, 4],
     };
-    assert_eq!(rt; figures.number(8, &Scope::new(0)), 16);
+    assert_eq!(rt; figures.number(8, &Scope::new()), 16);
     Ok(())
 }
 

@@ -1,4 +1,5 @@
 pub mod Readback
 pub mod Spelled
+pub mod Joined
 pub mod Splits
 pub mod Told

@@ -1,5 +1,5 @@
 -- How a line is split: `)` alone, or `(`, a word of letters, pieces and perhaps `)`; then the line end.
-use Rattle.std.specs.Prelude.{ℕ, ◌+◌, Bool, cond, not, ◌||◌, List, [], ◌∷◌, length, take, drop, Some, None, Ok, Err, Option, Result, ◌==◌}
+use Rattle.std.specs.Prelude.{ℕ, ◌+◌, Bool, cond, not, ◌&&◌, ◌||◌, List, [], ◌∷◌, length, take, drop, Some, None, Ok, Err, Option, Result, ◌==◌}
 use Rattle.std.specs.Char.{is_ascii_lowercase}
 use Rattle.std.specs.List.{list_all, prefix_len, slice_split, take_while}
 use Rattle.lines.specs.declared.fault.LineFault.{LineFault}
@@ -37,6 +37,10 @@ one_more (Some n) = Some (n + 1)
 abbrev pub pieces_run : List ℕ → Option ℕ
 pieces_run [] = Some 0
 pieces_run (c ∷ cs) = cond (c == 32) (one_more (filled_run cs)) (Some 0)
+
+-- a byte, by the one before it, goes on with the pieces: it is neither a bracket nor a line end, nor a space behind a space
+abbrev pub joins : ℕ × ℕ → Bool
+joins x = inner x.1 && not (space x.0 && space x.1)
 
 -- the word, and the pieces with their spaces
 pub record Spelling : Type 0 where

@@ -1,8 +1,8 @@
 // A line is split into its token; what the token holds is lent from the text.
 ghost use Rattle.std.specs.Prelude.{◌≡◌};
-ghost use Rattle.std.specs.List.{prefix_len};
+ghost use Rattle.std.specs.List.{prefix_len, zip};
 ghost use Rattle.lines.specs.Shown.{shown, shown_read};
-ghost use Rattle.lines.specs.Split.{fields, filled, filled_run, form_token, inner, letter, pieces_run, token_at, token_read};
+ghost use Rattle.lines.specs.Split.{form_token, joins, letter, pieces_run, token_at, token_read};
 
 use crate::fault::LineFault;
 use crate::token::{Spelled, Token};
@@ -54,39 +54,30 @@ fn letters(bytes: &[u8]) -> usize
         .count()
 }
 
-// How many bytes of pieces come first, if each piece has a byte behind its space.
+// How many bytes of pieces come first, if each piece has a byte behind its space. It looks no further than the first
+// bracket, line end, or space behind a space.
 fn pieces_len(bytes: &[u8]) -> Option<usize>
     ensures { result ≡ pieces_run bytes.now }
 {
     match bytes {
-        [b' ', rest @ ..] => Some(filled_len(rest)? + 1),
+        [b' ', rest @ ..] => {
+            let len = joined_len(bytes, rest);
+            (bytes[len] != b' ').then_some(len + 1)
+        }
         _ => Some(0),
     }
 }
 
-// How many bytes come before a bracket or a line end, if between spaces there is always a byte.
-fn filled_len(bytes: &[u8]) -> Option<usize>
-    ensures { result ≡ filled_run bytes.now }
-{
-    let len = inner_len(bytes);
-    are_filled(&bytes[..len]).then_some(len)
-}
-
-// How many bytes come before a bracket or a line end.
-fn inner_len(bytes: &[u8]) -> usize
-    ensures { result ≡ prefix_len inner bytes.now }
+// How many bytes of `rest` go on with the pieces, each looked at with the byte before it.
+fn joined_len(bytes: &[u8], rest: &[u8]) -> usize
+    ensures { result ≡ prefix_len joins (zip bytes.now rest.now) }
 {
     bytes
         .iter()
-        .take_while(|byte| !matches!(**byte, b'(' | b')' | b'\n'))
+        .zip(rest)
+        .take_while(|(before, byte)| !matches!(
+            (**before, **byte),
+            (_, b'(' | b')' | b'\n') | (b' ', b' ')
+        ))
         .count()
-}
-
-// Whether a byte stands before, between and behind the spaces.
-fn are_filled(bytes: &[u8]) -> bool
-    ensures { result ≡ filled (fields bytes.now) }
-{
-    bytes
-        .split(|byte| *byte == b' ')
-        .all(|field| !field.is_empty())
 }

@@ -32,7 +32,7 @@ impl Progress {
         ensures { standing result ≡ start }
     {
         Progress {
-            stack: Stack::new(Frame::FILLER),
+            stack: Stack::with_filler(Frame::FILLER),
             forms: 0,
             wrong: None,
         }

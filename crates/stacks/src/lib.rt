@@ -12,7 +12,7 @@ mod tests {
 
     #[test]
     fn the_innermost_first(rt: HostRuntime) -> Result<(), Fail> {
-        let outer: Stack<u8, 3> = Stack::new(0).with(5);
+        let outer: Stack<u8, 3> = Stack::new().with(5);
         let mut stack = outer.with(6);
         assert!(rt; stack.as_slice() == [6, 5].as_slice());
         assert_eq!(rt; (stack.len(), stack.spare()), (2, 1));

@@ -1,12 +1,11 @@
--- Lists over indices: how `array::from_fn` fills them, one element replaced, and two lists joined by their hulls.
-use Rattle.std.proofs.Common.{◌≡◌, ℕ, zero, suc, ◌+◌, ◌<◌, ◌≤◌, List, [], ◌∷◌, map, length, get_or, set, sym, refl, ap, ◌∙◌, subst, ⊎_elim, arith}
+-- Lists over indices: how `array::from_fn` fills them, and two lists joined by their hulls.
+use Rattle.std.proofs.Common.{◌≡◌, ℕ, zero, suc, ◌+◌, ◌<◌, ◌≤◌, List, [], ◌∷◌, map, length, get_or, sym, refl, ap, ◌∙◌, subst, ⊎_elim, arith}
 use Rattle.sources.specs.Indexed.{listed, listed_at}
 use Rattle.sources.specs.Shapes.{columns_of}
 use Rattle.sources.specs.Unions.{hull, hulls}
 use Rattle.sources.specs.declared.shapes.Range.{Range}
 use Rattle.sources.specs.declared.shapes.Shape.{Shape}
 use Rattle.std.proofs.lemmas.List.FromFn.{fill_by_all, length-map-range_with_len}
-use Rattle.std.proofs.lemmas.List.{get_or-set_other, get_or-set_same, length-set}
 use Rattle.std.proofs.lemmas.Bool.{cases_eq}
 use Rattle.std.specs.Array.{IsFromFnResultFrom}
 use Rattle.std.specs.Fn.{Called}
@@ -28,12 +27,6 @@ made_at {F} g h f ys i (suc n) d (q, y, at, called, rest) call k low high =
 
 pub listed_same : {X : Type 0} (f g : ℕ → X) (n : ℕ) (d : X) → ((k : ℕ) → k < n → f k ≡ g k) → listed f n ≡ listed g n
 listed_same f g n d same = fill_by_all g (listed f n) n d (length-map-range_with_len f 0 n) (λ k h. listed_at f n k d h ∙ same k h)
-
-pub set_listed : {X : Type 0} (xs : List X) (n j : ℕ) (x d : X) → j < n → j < length xs → listed (λ i. get_or (set xs j x) i d) n ≡ set (listed (λ i. get_or xs i d) n) j x
-set_listed xs n j x d below inside =
-    let old = listed (λ i. get_or xs i d) n in
-    let long : length old ≡ n = length-map-range_with_len (λ i. get_or xs i d) 0 n in
-    sym (fill_by_all (λ i. get_or (set xs j x) i d) (set old j x) n d (length-set old j x ∙ long) (λ k h. grind (arith, get_or-set_same, get_or-set_other, listed_at (λ i. get_or xs i d) n k d h, cases_eq k j)))
 
 hulls_map : {X : Type 0} (f g : X → Range) (xs : List X) → map (λ x. hull (f x) (g x)) xs ≡ hulls (map f xs) (map g xs)
 hulls_map f g [] = refl

@@ -1,15 +1,20 @@
 -- What the rules give bags and numbers, as the code holds it.
-use Rattle.std.specs.Prelude.{◌≡◌, ℕ, ◌≤◌, true, drop}
+use Rattle.std.specs.Prelude.{◌≡◌, ℕ, ◌≤◌, true, drop, pos}
 use Rattle.forms.specs.Limits.{number_bound}
 use Rattle.rules.specs.Amounts.{all_at_most, at_most}
 use Rattle.rules.specs.Ranges.{bounded}
 use Rattle.rules.specs.Typing.{BagType, NumberType, sensitivity_bound}
-use Rattle.sources.specs.Shapes.{columns_of, max_width}
+use Rattle.sources.specs.Shapes.{column, columns_of, max_width, range}
+use Rattle.sources.specs.declared.shapes.Shape.{Shape}
 use Rattle.types.specs.declared.bag.TypedBag.{TypedBag}
 use Rattle.types.specs.declared.number.TypedNumber.{TypedNumber}
 
 abbrev pub bag_shown : TypedBag → BagType
 bag_shown x = record { limit = x.shape.limit; columns = columns_of x.shape; inputs = x.inputs }
+
+-- behind the width every column is from 0 to 0
+abbrev pub ZeroBehind : Shape → Type 0
+ZeroBehind s = (j : ℕ) → s.width ≤ j → column s.columns j ≡ range (pos 0) (pos 0)
 
 -- a number in a scope with `first` to spare
 abbrev pub number_shown : ℕ → TypedNumber → NumberType

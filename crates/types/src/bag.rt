@@ -1,15 +1,15 @@
 // What the rules give a bag: its shape, and how far it moves with each input.
-ghost use Rattle.std.specs.Prelude.{◌≡◌, ◌+◌, ◌<◌, ◌≤◌, true, length, IfOk, None, ◌==◌, slice_set};
+ghost use Rattle.std.specs.Prelude.{◌≡◌, ℕ, ◌+◌, ◌<◌, ◌≤◌, true, length, pos, IfOk, None, ◌==◌, slice_set};
 ghost use Rattle.refusals.specs.Rules.{or_else};
 ghost use Rattle.rules.specs.Amounts.{at_most};
 ghost use Rattle.rules.specs.Catalogue.{faulty_input};
 ghost use Rattle.rules.specs.Ranges.{most_rows};
 ghost use Rattle.rules.specs.Typing.{bag_rule, index, place, pooled, replaced, scope_rule, sensitivity_bound, settle, source_type};
 ghost use Rattle.sources.specs.Indexed.{listed};
-ghost use Rattle.sources.specs.Shapes.{column, columns_of, max_rows, max_width};
+ghost use Rattle.sources.specs.Shapes.{column, columns_of, max_rows, max_width, range};
 ghost use Rattle.sources.specs.Unions.{hulls};
 ghost use Rattle.types.specs.Faults.{told};
-ghost use Rattle.types.specs.Shown.{BagGood, bag_shown};
+ghost use Rattle.types.specs.Shown.{BagGood, ZeroBehind, bag_shown};
 
 use crate::fault::RuleFault;
 use crate::limits::SENSITIVITY_BOUND;
@@ -43,6 +43,7 @@ impl TypedBag {
         requires { self.now.shape.width ≤ max_width }
         ensures value { told bag_shown result ≡ settle (scope_rule line (place (length (columns_of self.now.shape)) at)) (replaced (bag_shown self.now) (index at) range) }
         ensures kept { IfOk result (λ x. (x.shape.width ≡ self.now.shape.width) × (x.shape.limit ≡ self.now.shape.limit) × (x.inputs ≡ self.now.inputs)) }
+        ensures behind { IfOk result (λ x. ZeroBehind x.shape) }
     {
         let at = place_in_scope(at, self.shape.width, line)?;
         Ok(TypedBag {
@@ -59,6 +60,7 @@ impl TypedBag {
         requires second_small { at_most sensitivity_bound other.now.inputs ≡ true }
         ensures value { told bag_shown result ≡ settle (or_else (scope_rule line (length (columns_of self.now.shape) == length (columns_of other.now.shape))) (bag_rule line (pooled (bag_shown self.now) (bag_shown other.now)))) (pooled (bag_shown self.now) (bag_shown other.now)) }
         ensures kept { IfOk result (λ x. (x.shape.width ≡ self.now.shape.width) × (x.shape.limit ≡ self.now.shape.limit + other.now.shape.limit) × (at_most sensitivity_bound x.inputs ≡ true)) }
+        ensures behind { IfOk result (λ x. ZeroBehind x.shape) }
     {
         if self.shape.width != other.shape.width {
             return Err(RuleFault::OutOfScope { line });
@@ -108,10 +110,20 @@ fn replaced(shape: &Shape, at: usize, range: Range) -> Shape
     ensures width { result.width ≡ shape.now.width }
     ensures limit { result.limit ≡ shape.now.limit }
     ensures columns { columns_of result ≡ slice_set (columns_of shape.now) at range }
+    ensures behind { ZeroBehind result }
 {
-    let mut columns = shape.columns;
-    columns[at] = range;
-    Shape { columns, ..*shape }
+    Shape {
+        columns: array::from_fn(|j| {
+            if j == at {
+                range
+            } else if j < shape.width {
+                shape.columns[j]
+            } else {
+                Range::ZERO
+            }
+        }),
+        ..*shape
+    }
 }
 
 // The shape of the rows of both.
@@ -121,10 +133,27 @@ fn united(a: &Shape, b: &Shape) -> Shape
     ensures width { result.width ≡ a.now.width }
     ensures limit { result.limit ≡ a.now.limit + b.now.limit }
     ensures columns { columns_of result ≡ hulls (columns_of a.now) (columns_of b.now) }
+    ensures behind { ZeroBehind result }
 {
     Shape {
         width: a.width,
         limit: a.limit + b.limit,
-        columns: array::from_fn(|j| hull(a.columns[j], b.columns[j])),
+        columns: united_columns(&a.columns, &b.columns, a.width),
     }
+}
+
+// The hulls of the first `width` columns, and nothing behind them: what stands there is not looked at.
+fn united_columns(
+    a: &[Range; MAX_WIDTH],
+    b: &[Range; MAX_WIDTH],
+    width: usize,
+) -> [Range; MAX_WIDTH]
+    ensures columns { listed (column result) width ≡ hulls (listed (column a.now) width) (listed (column b.now) width) }
+    ensures behind { (j : ℕ) → width ≤ j → column result j ≡ range (pos 0) (pos 0) }
+{
+    array::from_fn(|j| if j < width {
+        hull(a[j], b[j])
+    } else {
+        Range::ZERO
+    })
 }

@@ -86,5 +86,5 @@ fn margin_at_1180() -> i64
         totals: &[0; ROOM],
         settings: &[1180, 5],
     };
-    figures.number(3, &Scope::new(0))
+    figures.number(3, &Scope::new())
 }

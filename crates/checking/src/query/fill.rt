@@ -63,7 +63,7 @@ fn read_typed(
         entries,
         call.catalogue,
         entries.len() - 1,
-        &Variables::new(Range::ZERO),
+        &Variables::new(),
         notes,
     )?;
     Ok(typed)

@@ -4,9 +4,19 @@ ghost use Rattle.stacks.specs.Stack.{replaced, spare, stacked};
 
 use super::Stack;
 
+impl<T: Copy + Default, const N: usize> Stack<T, N> {
+    // No item.
+    pub fn new() -> Stack<T, N>
+        ensures items { stacked result ≡ [] }
+        ensures spare { spare result ≡ N }
+    {
+        Stack::with_filler(T::default())
+    }
+}
+
 impl<T: Copy, const N: usize> Stack<T, N> {
     // No item. What stands in the array does not count.
-    pub fn new(filler: T) -> Stack<T, N>
+    pub fn with_filler(filler: T) -> Stack<T, N>
         ensures items { stacked result ≡ [] }
         ensures spare { spare result ≡ N }
     {
@@ -56,13 +66,14 @@ impl<T: Copy, const N: usize> Stack<T, N> {
     }
 
     // This stack with one item more, the innermost.
-    pub fn with(mut self, item: T) -> Stack<T, N>
-        requires { 0 < spare self }
-        ensures items { stacked result ≡ item ∷ stacked self }
-        ensures spare { spare result + 1 ≡ spare self }
+    pub fn with(&self, item: T) -> Stack<T, N>
+        requires { 0 < spare self.now }
+        ensures items { stacked result ≡ item ∷ stacked self.now }
+        ensures spare { spare result + 1 ≡ spare self.now }
     {
-        self.push(item);
-        self
+        let mut grown = *self;
+        grown.push(item);
+        grown
     }
 
     // The innermost item is taken off, if there is one.
